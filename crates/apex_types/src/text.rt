@@ -1,4 +1,4 @@
-ghost use Rattle.std.specs.Prelude.{◌≡◌, [], ◌∷◌, ◌++◌, ◌<◌, length, IfOk, OnOk, OnErr};
+ghost use Rattle.std.specs.Prelude.{◌≡◌, [], ◌∷◌, ◌++◌, ◌<◌, ◌≤◌, length, IfOk, OnOk, OnErr};
 
 use crate::codes::OutOfMemory;
 use arrayvec::ArrayVec;
@@ -97,6 +97,20 @@ impl ByteList {
     {
         self.content.as_slice()
     }
+
+    /// The list of these bytes.
+    pub fn from_vec(content: Vec<u8>) -> ByteList
+        ensures { result ≡ content.items }
+    {
+        ByteList { content }
+    }
+
+    /// The bytes of the list.
+    pub fn into_vec(self) -> Vec<u8>
+        ensures { result.items ≡ self }
+    {
+        self.content
+    }
 }
 
 /// The data of a reply: at most 4,096 bytes.
@@ -132,8 +146,10 @@ impl Bytes {
     }
 
     pub fn bytes(&self) -> &[u8]
-        ensures { result.now ≡ self.now }
+        ensures value { result.now ≡ self.now }
+        ensures few { length self.now ≤ 4096 }
     {
+        let _content = &self.content;
         self.content.as_slice()
     }
 }
