@@ -1,0 +1,4 @@
+pub mod Newest
+pub mod Phases
+pub mod Regions
+pub mod Steps
