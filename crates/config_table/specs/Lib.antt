@@ -1,0 +1,5 @@
+pub mod Counted
+pub mod Gives
+pub mod Keys
+pub mod Pushes
+pub mod WrittenRows
