@@ -1,0 +1,4 @@
+use Rattle.call_script.proofs.reply_text.ReplyText.+put_digits.Given as goal
+
+abbrev pub decreases-put_digits : goal.decreases-put_digits
+decreases-put_digits l = l.number

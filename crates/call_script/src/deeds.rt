@@ -1,0 +1,118 @@
+//! What a line asks for.
+
+ghost use Rattle.std.specs.Prelude.{◌≡◌, ◌≤◌, map, length, option_map, IfSome, ◌<◌};
+ghost use Rattle.std.specs.List.{list_all};
+ghost use Rattle.script_model.specs.Reading.{is_printable, verb_at, if_offered, call_at, ticks_at, partition_at, deed_from_words, deed_at};
+ghost use Rattle.call_script.specs.Gives.{Gives};
+
+use crate::arguments::{number, one};
+use crate::calls::{arguments_of, verb};
+use crate::offered::is_offered;
+use crate::words::words_of;
+use apex_types::{Call, Deed, PartitionId, Table};
+use script_model::{LineFault, Verb};
+use std::alloc::Global;
+
+/// A number of ticks.
+fn ticks(word: &[u8]) -> Result<u32, LineFault>
+    ensures { result ≡ ticks_at word.now }
+{
+    let ticks = number(word)?;
+    if ticks < 1 || ticks > 100_000 {
+        return Err(LineFault::BadNumber);
+    }
+    Ok(ticks)
+}
+
+/// The call or directive of a word, if it is offered.
+fn offered_verb(word: &[u8]) -> Option<Verb>
+    ensures { result ≡ if_offered (verb_at word.now) }
+{
+    match verb(word) {
+        Some(verb) => if is_offered(verb) { Some(verb) } else { None },
+        None => None,
+    }
+}
+
+/// The call of some words, the first of which names it.
+#[tactic(auto, unfolding(script_model::specs::Reading::call_at))]
+fn call_of(alloc: Global, words: &[&[u8]]) -> Result<Call, LineFault>
+    ensures { Gives (λ c. c) result (call_at (map (λ w. w.now) words.now)) }
+{
+    match words {
+        [] => Err(LineFault::UnknownCall),
+        [word, arguments @ ..] => match offered_verb(word) {
+            Some(verb) => arguments_of(alloc, verb, arguments),
+            None => Err(LineFault::UnknownCall),
+        },
+    }
+}
+
+/// The place of the partition of a name.
+fn place_of(table: &Table, word: &[u8]) -> Option<usize>
+    ensures value { result ≡ partition_at table.now word.now }
+    ensures within { IfSome result (λ place. place < length table.now.partitions) }
+{
+    table
+        .partitions()
+        .iter()
+        .position(|row| row.name.bytes() == word)
+}
+
+/// The partition of a name.
+fn partition_of(table: &Table, word: &[u8]) -> Option<PartitionId>
+    requires { length table.now.partitions ≤ 16 }
+    ensures { option_map (λ p. p.0) result ≡ partition_at table.now word.now }
+{
+    match place_of(table, word) {
+        Some(place) => Some(PartitionId(place as u8)),
+        None => None,
+    }
+}
+
+/// What the words of a line ask for.
+#[tactic(auto, unfolding(script_model::specs::Reading::deed_from_words))]
+fn deed_from_words(alloc: Global, table: &Table, words: &[&[u8]]) -> Result<Deed, LineFault>
+    requires { length table.now.partitions ≤ 16 }
+    ensures { Gives (λ d. d) result (deed_from_words table.now (map (λ w. w.now) words.now)) }
+{
+    match words {
+        [] => Err(LineFault::UnknownPartition),
+        [word, rest @ ..] => {
+            if *word == b"TICK".as_slice() {
+                let word = one(rest)?;
+                let ticks = ticks(word)?;
+                return Ok(Deed::Tick(ticks));
+            }
+            match partition_of(table, word) {
+                Some(p) => {
+                    let call = call_of(alloc, rest)?;
+                    Ok(Deed::Partition { p, call })
+                }
+                None => Err(LineFault::UnknownPartition),
+            }
+        }
+    }
+}
+
+/// Whether these are printable ASCII alone.
+fn are_printable(text: &[u8]) -> bool
+    ensures { result ≡ list_all is_printable text.now }
+{
+    text.iter().all(|b| *b >= 32 && *b <= 126)
+}
+
+/// What a line asks for.
+#[tactic(auto, unfolding(script_model::specs::Reading::deed_at))]
+pub fn deed_of(alloc: Global, table: &Table, text: &[u8]) -> Result<Deed, LineFault>
+    requires { length table.now.partitions ≤ 16 }
+    ensures { Gives (λ d. d) result (deed_at table.now text.now) }
+{
+    if !are_printable(text) {
+        return Err(LineFault::NotAscii);
+    }
+    match words_of(alloc, text) {
+        Ok(words) => deed_from_words(alloc, table, &words),
+        Err(_) => Err(LineFault::OutOfMemory),
+    }
+}

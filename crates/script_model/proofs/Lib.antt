@@ -1,0 +1,11 @@
+pub mod Steps
+pub mod Numbers
+pub mod Data
+pub mod Keywords
+pub mod Arguments
+pub mod Cuts
+pub mod Deeds
+pub mod Scripts
+pub mod FirstFaults
+pub mod Lines
+pub mod Accepted

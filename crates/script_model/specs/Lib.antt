@@ -1,0 +1,7 @@
+pub mod Spelling
+pub mod Offered
+pub mod Reading
+pub mod Script
+pub mod Refusals
+pub mod Numbering
+pub mod Faults
