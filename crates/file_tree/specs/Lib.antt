@@ -1,0 +1,4 @@
+pub mod Children
+pub mod Entries
+pub mod Least
+pub mod Table

@@ -1,0 +1,48 @@
+-- Entries with a parent and a name, and the paths that they stand for.
+use Rattle.std.specs.Prelude.{◌≡◌, ℕ, zero, suc, Bool, false, ◌≤◌, ◌&&◌, ◌==◌, List, [], ◌∷◌, ◌++◌, length, map, Option, Some, None, option_map, IsSome, bytes_eq}
+use Rattle.apex_model.specs.Trees.{Name}
+use Rattle.file_tree.specs.declared.entries.Entry.{Entry}
+use Rattle.file_tree.specs.Entries.{TreeValue, slot, nodes_of, AreDistinct}
+
+-- the path of an entry in use, where this gives the paths of directories
+abbrev pub path_of : (ℕ → Option (List Name)) → Option Entry → Option (List Name)
+path_of ways None = None
+path_of ways (Some entry) = option_map (λ names. names ++ entry.name ∷ []) (ways entry.parent.0)
+
+abbrev pub way_by : (ℕ → Option (List Name)) → List (Option Entry) → ℕ → Option (List Name)
+way_by ways directories zero = Some []
+way_by ways directories (suc d) = path_of ways (slot directories d)
+
+-- the path of a directory in use that lies at most so many names deep
+unfoldable pub way : List (Option Entry) → ℕ → ℕ → Option (List Name)
+way directories zero zero = Some []
+way directories zero (suc d) = None
+way directories (suc depth) d = way_by (way directories depth) directories d
+
+-- the paths of entries
+abbrev pub paths : List (Option Entry) → List (Option Entry) → List (Option (List Name))
+paths directories entries = map (path_of (way directories 5)) entries
+
+unfoldable pub value_of : List (Option Entry) → List (Option Entry) → TreeValue
+value_of files directories = record {
+  nodes = nodes_of (paths directories files) (paths directories directories);
+  files = paths directories files;
+  directories = paths directories directories;
+}
+
+-- the parent of each entry is a directory in use with at most 5 names on its way
+abbrev pub HaveParents : List (Option Entry) → List (Option Entry) → Type 0
+HaveParents directories entries = (i : ℕ) (entry : Entry) → slot entries i ≡ Some entry → IsSome (way directories 5 entry.parent.0)
+
+-- what holds of the entries of a tree
+pub record AreSound (files directories : List (Option Entry)) : Type 0 where
+  pub few_files : length files ≤ 255
+  pub few_directories : length directories ≤ 255
+  pub file_parents : HaveParents directories files
+  pub directory_parents : HaveParents directories directories
+  pub distinct : AreDistinct (paths directories files) (paths directories directories)
+
+-- whether a place has the entry of this name in this directory
+abbrev pub is_child : ℕ → Name → Option Entry → Bool
+is_child parent name None = false
+is_child parent name (Some entry) = (entry.parent.0 == parent) && bytes_eq entry.name name

@@ -1,0 +1,70 @@
+ghost use Rattle.std.specs.Prelude.{◌≡◌, ◌<◌, ◌≤◌, length, replicate, None, IfOk, IfSome, position, count_by, is_some};
+ghost use Rattle.apex_model.specs.Handles.{free_from};
+ghost use Rattle.file_tree.specs.Table.{is_child};
+
+use apex_types::{DirNode, Name, OutOfMemory};
+use std::alloc::Global;
+
+/// An entry in use: a name in a directory.
+#[derive(Drop)]
+pub struct Entry {
+    pub parent: DirNode,
+    pub name: Name,
+}
+
+/// So many unused entries.
+pub fn unused_entries(alloc: Global, count: u8) -> Result<Vec<Option<Entry>>, OutOfMemory>
+    ensures { IfOk result (λ entries. entries.items ≡ replicate count None) }
+{
+    let mut entries = Vec::new(alloc);
+    for _ in 0..count {
+        entries.push(None).map_err(|_| OutOfMemory)?;
+    }
+    Ok(entries)
+}
+
+/// The least unused place.
+pub fn free_place(entries: &[Option<Entry>]) -> Option<usize>
+    ensures least { result ≡ free_from 0 entries.now }
+    ensures within { IfSome result (λ k. k < length entries.now) }
+{
+    for (k, place) in entries.iter().enumerate() {
+        if place.is_none() {
+            return Some(k);
+        }
+    }
+    None
+}
+
+/// Whether a place has the entry of this name in this directory.
+fn has_child(place: &Option<Entry>, parent: DirNode, name: &Name) -> bool
+    ensures { result ≡ is_child parent.0 name.now place.now }
+{
+    match place {
+        None => false,
+        Some(entry) => {
+            if entry.parent.0 != parent.0 {
+                return false;
+            }
+            entry.name.bytes() == name.bytes()
+        }
+    }
+}
+
+/// The place of this name in this directory.
+pub fn child_place(entries: &[Option<Entry>], parent: DirNode, name: &Name) -> Option<usize>
+    ensures place { result ≡ position (is_child parent.0 name.now) entries.now }
+    ensures within { IfSome result (λ k. k < length entries.now) }
+{
+    entries
+        .iter()
+        .position(|place| has_child(place, parent, name))
+}
+
+/// How many entries are in use.
+pub fn used_entries(entries: &[Option<Entry>]) -> usize
+    ensures value { result ≡ count_by is_some entries.now }
+    ensures within { result ≤ length entries.now }
+{
+    entries.iter().filter(|place| place.is_some()).count()
+}

@@ -1,0 +1,9 @@
+//! The names and entries of one tree: directories and files below a root.
+#![tactic(auto)]
+
+mod child;
+mod entries;
+mod least;
+mod tree;
+
+pub use tree::Tree;

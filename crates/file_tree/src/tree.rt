@@ -1,0 +1,199 @@
+ghost use Rattle.std.specs.Prelude.{◌≡◌, ◌-◌, ◌<◌, ◌≤◌, ◌≢◌, [], length, unwrap_or, None, Some, IsSome, IfOk, IfErr, IfSome, MatchResult};
+ghost use Rattle.apex_model.specs.Handles.{free_from};
+ghost use Rattle.apex_model.specs.Trees.{standing_at, walk, entries_within, file_count};
+ghost use Rattle.file_tree.specs.Entries.{slot, way_of, path_in, no_entries, with_file, with_directory, without_file, without_directory, with_file_at, IsSpotAt, IsNextSpot, IsConsistent};
+ghost use Rattle.file_tree.specs.Children.{IsChildAt};
+
+use crate::child::Child;
+use crate::entries::{Entry, child_place, free_place, unused_entries, used_entries};
+use crate::least::{directory_spot, file_spot, is_second_first, least_place};
+use apex_types::{DirNode, Errno, FileNode, Name, OutOfMemory, Path, Spot};
+use std::alloc::Global;
+use std::marker::Model;
+
+/// The names of one tree: directories and files below its root, at most 6 names deep.
+#[derive(Drop)]
+pub struct Tree {
+    files: Vec<Option<Entry>>,
+    directories: Vec<Option<Entry>>,
+}
+
+impl Model for Tree {
+    ghost use Rattle.file_tree.specs.Entries.{TreeValue};
+
+    ghost Value = { TreeValue };
+
+    ghost use Rattle.file_tree.specs.Table.{value_of, AreSound};
+
+    ghost view = { λ t. value_of t.files.items t.directories.items };
+
+    ghost invariant = { λ t. AreSound t.files.items t.directories.items };
+}
+
+impl Tree {
+    /// A root with nothing in it, and room for so many files and directories.
+    pub fn new(alloc: Global, files: u8, directories: u8) -> Result<Tree, OutOfMemory>
+        ensures { IfOk result (λ tree. tree ≡ no_entries files directories) }
+    {
+        let files = unused_entries(alloc, files)?;
+        let directories = unused_entries(alloc, directories)?;
+        Ok(Tree { files, directories })
+    }
+
+    /// How many files there are.
+    pub fn files(&self) -> u32
+        ensures count { result ≡ file_count self.now.nodes }
+        // What holds of every tree; a caller learns it here.
+        ensures consistent { IsConsistent self.now }
+    {
+        used_entries(&self.files) as u32
+    }
+
+    /// What stands at this name of a directory.
+    fn child(&self, parent: DirNode, name: &Name) -> Child
+        requires { IsSome (way_of self.now parent.0) }
+        ensures { IsChildAt self.now (path_in self.now parent.0 name.now) result }
+    {
+        if let Some(k) = child_place(&self.files, parent, name) {
+            return Child::File(FileNode(k as u8));
+        }
+        if let Some(k) = child_place(&self.directories, parent, name) {
+            return Child::Directory(DirNode(k as u8 + 1));
+        }
+        Child::Nothing
+    }
+
+    /// Where a path ends that has this last name.
+    fn spot(&self, parent: DirNode, name: &Name) -> Spot
+        requires { IsSome (way_of self.now parent.0) }
+        ensures { IsSpotAt self.now (path_in self.now parent.0 name.now) result }
+    {
+        match self.child(parent, name) {
+            Child::Nothing => Spot::Free { parent },
+            Child::File(node) => Spot::File {
+                parent,
+                node,
+                name: name.copy(),
+            },
+            Child::Directory(node) => Spot::Directory {
+                parent,
+                node,
+                name: name.copy(),
+            },
+        }
+    }
+
+    /// What stands at the end of a path of this tree. Of the names before the last, from the root on,
+    /// the first one at which nothing stands gives ENOENT, and the first one that is a file's ENOTDIR.
+    pub fn walk(&self, path: &Path) -> Result<Spot, Errno>
+        ensures obstacle { MatchResult result (λ _. walk self.now.nodes path.now.names ≡ None) (λ e. walk self.now.nodes path.now.names ≡ Some e) }
+        ensures spot { IfOk result (IsSpotAt self.now path.now.names) }
+    {
+        let count = path.names.len();
+        if count == 0 {
+            return Ok(Spot::Root);
+        }
+        let mut parent = DirNode(0);
+        for k in 0..count - 1 {
+            match self.child(parent, path.names.at(k)) {
+                Child::Nothing => return Err(Errno::Enoent),
+                Child::File(_) => return Err(Errno::Enotdir),
+                Child::Directory(directory) => parent = directory,
+            }
+        }
+        Ok(self.spot(parent, path.names.at(count - 1)))
+    }
+
+    /// Makes a file of this name at the least unused entry.
+    /// ENOSPC comes exactly where all entries for files are used; nothing changes then.
+    pub fn make_file(&mut self, parent: DirNode, name: Name) -> Result<FileNode, Errno>
+        requires in_use { IsSome (way_of self.old parent.0) }
+        requires few { length (path_in self.old parent.0 name) ≤ 6 }
+        requires free { standing_at self.old.nodes (path_in self.old parent.0 name) ≡ None }
+        ensures made { IfOk result (λ f. (free_from 0 self.old.files ≡ Some f.0) × (self.new ≡ with_file self.old f.0 (path_in self.old parent.0 name))) }
+        ensures full { IfErr result (λ e. (e ≡ Errno.Enospc) × (free_from 0 self.old.files ≡ None) × (self.new ≡ self.old)) }
+    {
+        let Some(k) = free_place(&self.files) else {
+            return Err(Errno::Enospc);
+        };
+        self.files[k] = Some(Entry { parent, name });
+        Ok(FileNode(k as u8))
+    }
+
+    /// Makes a directory of this name at the least unused entry.
+    /// ENOSPC comes exactly where all entries for directories are used; nothing changes then.
+    pub fn make_dir(&mut self, parent: DirNode, name: Name) -> Result<DirNode, Errno>
+        requires in_use { IsSome (way_of self.old parent.0) }
+        requires few { length (path_in self.old parent.0 name) ≤ 6 }
+        requires free { standing_at self.old.nodes (path_in self.old parent.0 name) ≡ None }
+        ensures made { IfOk result (λ d. (free_from 1 self.old.directories ≡ Some d.0) × (self.new ≡ with_directory self.old (d.0 - 1) (path_in self.old parent.0 name))) }
+        ensures full { IfErr result (λ e. (e ≡ Errno.Enospc) × (free_from 1 self.old.directories ≡ None) × (self.new ≡ self.old)) }
+    {
+        let Some(k) = free_place(&self.directories) else {
+            return Err(Errno::Enospc);
+        };
+        self.directories[k] = Some(Entry { parent, name });
+        Ok(DirNode(k as u8 + 1))
+    }
+
+    /// Removes a file; its entry is unused from then on.
+    pub fn remove_file(&mut self, file: FileNode)
+        requires { IsSome (slot self.old.files file.0) }
+        ensures { IfSome (slot self.old.files file.0) (λ path. self.new ≡ without_file self.old file.0 path) }
+    {
+        self.files[file.0 as usize] = None;
+    }
+
+    /// Gives a file another name, in this or another directory.
+    pub fn rename(&mut self, file: FileNode, parent: DirNode, name: Name)
+        requires file { IsSome (slot self.old.files file.0) }
+        requires in_use { IsSome (way_of self.old parent.0) }
+        requires few { length (path_in self.old parent.0 name) ≤ 6 }
+        requires free { standing_at self.old.nodes (path_in self.old parent.0 name) ≡ None }
+        ensures { IfSome (slot self.old.files file.0) (λ path. self.new ≡ with_file_at self.old file.0 path (path_in self.old parent.0 name)) }
+    {
+        self.files[file.0 as usize] = Some(Entry { parent, name });
+    }
+
+    /// The entry of a directory with the least name in byte order behind the last name given, or with the
+    /// least name of all. None comes exactly where there is no such entry.
+    pub fn next_entry(&self, directory: DirNode, after: Option<Name>) -> Option<Spot>
+        requires { IsSome (way_of self.now directory.0) }
+        ensures { IsNextSpot self.now (unwrap_or (way_of self.now directory.0) []) after result }
+    {
+        let file = least_place(&self.files, directory, &after);
+        let below = least_place(&self.directories, directory, &after);
+        let Some(f) = file else {
+            let Some(d) = below else {
+                return None;
+            };
+            return directory_spot(&self.directories, d);
+        };
+        let Some(d) = below else {
+            return file_spot(&self.files, f);
+        };
+        if is_second_first(&self.files, f, &self.directories, d) {
+            directory_spot(&self.directories, d)
+        } else {
+            file_spot(&self.files, f)
+        }
+    }
+
+    /// Removes a directory other than the root; its entry is unused from then on.
+    /// ENOTEMPTY comes exactly where something stands in it; nothing changes then.
+    pub fn remove_dir(&mut self, directory: DirNode) -> Result<(), Errno>
+        requires below_root { directory.0 ≢ 0 }
+        requires in_use { IsSome (way_of self.old directory.0) }
+        ensures removed { IfOk result (λ _. (entries_within self.old.nodes (unwrap_or (way_of self.old directory.0) []) ≡ []) × (self.new ≡ without_directory self.old (directory.0 - 1) (unwrap_or (way_of self.old directory.0) []))) }
+        ensures not_empty { IfErr result (λ e. (e ≡ Errno.Enotempty) × (1 ≤ length (entries_within self.old.nodes (unwrap_or (way_of self.old directory.0) []))) × (self.new ≡ self.old)) }
+    {
+        if self.next_entry(directory, None).is_some() {
+            return Err(Errno::Enotempty);
+        }
+        self.directories[directory.0 as usize - 1] = None;
+        Ok(())
+    }
+}
+
+#[cfg(test)]
+mod tests;

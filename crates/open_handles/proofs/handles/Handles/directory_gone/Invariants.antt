@@ -1,0 +1,7 @@
+use Rattle.std.proofs.Common.{◌≡◌, ◌++◌, map, take, drop}
+use Rattle.open_handles.specs.NodeHandles.{with_directory_gone}
+use Rattle.open_handles.proofs.handles.Handles.directory_gone.Given as goal
+
+-- the partitions so far are changed, and the others are as they were
+abbrev pub invariant-loop-handles : goal.invariant-loop-handles
+invariant-loop-handles l = l.handles-items ≡ map (with_directory_gone l.tree l.directory) (take l.handles-index l.initial.handles-items) ++ drop l.handles-index l.initial.handles-items

@@ -1,0 +1,2 @@
+pub mod NodeHandles
+pub mod Nodes
