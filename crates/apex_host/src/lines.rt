@@ -1,0 +1,74 @@
+//! The lines of a script carried out one after the other, each reply told.
+ghost use Rattle.std.specs.Prelude.{◌≡◌, ◌++◌, ◌⊎◌, ◌≤◌, ◌<◌, ℕ, List, [], length, take, true, false, OnOk, Ok, Err};
+ghost use Rattle.std.specs.List.{AllByRecursion};
+ghost use Rattle.apex_types.specs.Rows.{Rows};
+ghost use Rattle.apex_model.specs.Lines.{IsLineOf};
+ghost use Rattle.apex_model.specs.Run.{text_of, told_for};
+ghost use Rattle.apex_model.specs.World.{World, world_after};
+ghost use Rattle.rig_core.specs.Causes.{Rose};
+ghost use Rattle.rig_core.specs.Outside.{IsToldPart};
+ghost use Rattle.apex_host.specs.Sessions.{table_of_session, has_failed, StandsFor, IsOffered};
+ghost use Rattle.apex_host.specs.Told.{run_text};
+
+use crate::session::Session;
+use apex_types::Line;
+use call_script::{Script, reply_line};
+use rig_core::Rig;
+
+/// Why a line's reply was not told.
+#[derive(Clone, Copy, Debug, PartialEq, Eq)]
+pub enum LineStop {
+    Tell,
+    Memory,
+}
+
+/// Carries out a line, and tells its reply.
+fn turn<R: Rig>(session: &mut Session, line: &Line, rig: &mut R) -> Result<(), LineStop>
+    requires alive { has_failed session.old ≡ false }
+    requires of_table { IsLineOf (table_of_session session.old) line.now }
+    requires offered { IsOffered line.now.deed }
+    ensures alive { OnOk result (has_failed session.new ≡ false) }
+    ensures table { table_of_session session.new ≡ table_of_session session.old }
+    ensures world { OnOk result ((w : World) → StandsFor session.old w → StandsFor session.new (world_after (table_of_session session.old) w line.now.deed)) }
+    ensures told { R.tells_text → OnOk result ((w : World) → StandsFor session.old w
+        → (R.state rig.new).told ≡ (R.state rig.old).told ++ text_of (told_for (table_of_session session.old) [] w line.now.number line.now.deed)) }
+    ensures part { R.tells_text → result ≡ Err LineStop.Tell → (w : World) → StandsFor session.old w
+        → IsToldPart (text_of (told_for (table_of_session session.old) [] w line.now.number line.now.deed)) (R.state rig.old).told (R.state rig.new).told }
+    ensures silent { R.tells_text → result ≡ Err LineStop.Memory → (R.state rig.new).told ≡ (R.state rig.old).told }
+    ensures later { (R.state rig.old).tell_faults ≤ (R.state rig.new).tell_faults }
+    ensures cause { result ≡ Err LineStop.Tell → Rose (R.state rig.old).tell_faults (R.state rig.new).tell_faults }
+{
+    match session.step(line, rig) {
+        Err(_) => Err(LineStop::Memory),
+        Ok(None) => Ok(()),
+        Ok(Some(reply)) => match rig.tell(reply_line(line.number, &reply).bytes()) {
+            Ok(()) => Ok(()),
+            Err(_) => Err(LineStop::Tell),
+        },
+    }
+}
+
+/// Carries out the lines of a script, and tells each reply.
+pub fn carry_out<R: Rig>(
+    session: &mut Session,
+    script: &Script,
+    rig: &mut R,
+) -> Result<(), LineStop>
+    requires alive { has_failed session.old ≡ false }
+    requires of_table { AllByRecursion (IsLineOf (table_of_session session.old)) script.now }
+    requires offered { AllByRecursion (λ line. IsOffered line.deed) script.now }
+    ensures told { R.tells_text → OnOk result ((w : World) → StandsFor session.old w → (R.state rig.new).told ≡ (R.state rig.old).told ++ run_text (table_of_session session.old) w script.now) }
+    ensures part { R.tells_text → result ≡ Err LineStop.Tell → (w : World) → StandsFor session.old w → IsToldPart (run_text (table_of_session session.old) w script.now) (R.state rig.old).told (R.state rig.new).told }
+    ensures some { R.tells_text → result ≡ Err LineStop.Memory → (w : World) → StandsFor session.old w
+        → (done : ℕ) × ((R.state rig.new).told ≡ (R.state rig.old).told ++ run_text (table_of_session session.old) w (take done script.now)) }
+    ensures later { (R.state rig.old).tell_faults ≤ (R.state rig.new).tell_faults }
+    ensures cause { result ≡ Err LineStop.Tell → Rose (R.state rig.old).tell_faults (R.state rig.new).tell_faults }
+{
+    'lines: for k in 0..script.len() {
+        match turn(session, script.line(k), rig) {
+            Ok(()) => {}
+            Err(stop) => return Err(stop),
+        }
+    }
+    Ok(())
+}
