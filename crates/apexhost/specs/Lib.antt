@@ -1,0 +1,3 @@
+pub mod FileRig
+pub mod FileSource
+pub mod InputSource

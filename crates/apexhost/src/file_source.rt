@@ -1,0 +1,98 @@
+// A file as a source.
+ghost use Rattle.std.specs.Prelude.{◌≡◌, ◌<◌, length, is_ok, IsErr, if◌then◌else◌};
+ghost use Rattle.std.specs.Io.{ReadsAtMost};
+ghost use Rattle.std.specs.Io.KnownBytes.{ReadConsumes};
+ghost use Rattle.rig_core.specs.Causes.{HasCause, one_more};
+
+use crate::reading::read_once;
+use rig_core::{Failed, Source};
+use std::fs;
+use std::io::Read;
+use std::rt::Files;
+
+/// The bytes of a file. Each read of a file that can't be opened fails. It tells the bytes left where the file's
+/// reader tells them, and a file of the system tells none.
+#[derive(Drop)]
+pub struct FileSource<F> {
+    file: Option<F>,
+    faults: u64,
+}
+
+impl<F: Read> FileSource<F> {
+    ghost use Rattle.apexhost.specs.FileSource.{faults_of};
+
+    /// The file of this path, opened now.
+    pub fn open<R: Files<File = F>>(rt: &R, path: &str) -> FileSource<F>
+        ensures { faults_of result ≡ 0 }
+    {
+        FileSource {
+            file: fs::open(rt, path).ok(),
+            faults: 0,
+        }
+    }
+}
+
+impl<F: Read> Source for FileSource<F> {
+    ghost use Rattle.apexhost.specs.FileSource.{left_of, faults_of, IsAbsent};
+
+    ghost left = { left_of F.remaining };
+
+    ghost faults = { faults_of };
+
+    fn read(&mut self, into: &mut [u8]) -> Result<usize, Failed>
+        requires { 0 < length into.old }
+        ensures bound { ReadsAtMost result into.new }
+        ensures bytes { ReadConsumes (left_of F.remaining self.old) (left_of F.remaining self.new) result into.new }
+        ensures cause { HasCause (faults_of self.old) (faults_of self.new) result }
+        ensures counted { faults_of self.new ≡ (if is_ok result then faults_of self.old else one_more (faults_of self.old)) }
+        ensures absent { IsAbsent self.old → IsErr result }
+    {
+        let Some(file) = &mut self.file else {
+            self.faults = self.faults.saturating_add(1);
+            return Err(Failed);
+        };
+        match read_once(file, into) {
+            Ok(count) => Ok(count),
+            Err(_) => {
+                self.faults = self.faults.saturating_add(1);
+                Err(Failed)
+            }
+        }
+    }
+}
+
+#[cfg(test)]
+mod tests {
+    use super::*;
+    use std::test::Fail;
+    use std::{env, process};
+
+    #[test]
+    fn a_file_gives_its_bytes_and_then_its_end(rt: HostRuntime) -> Result<(), Fail> {
+        let name = format!(in rt.alloc(); "apexhost-{}.toml", process::id(rt.process()))?;
+        let mut path = env::temp_dir(&rt)?;
+        path.push(name.as_str())?;
+        fs::write(&rt, path.as_str(), "hello")?;
+        let mut source = FileSource::open(&rt, path.as_str());
+        fs::remove_file(&rt, path.as_str())?;
+        let mut into = [b'.'; 4];
+        assert_eq!(rt; source.read(&mut into), Ok(4));
+        assert!(rt; into == *b"hell");
+        assert_eq!(rt; source.read(&mut into), Ok(1));
+        assert!(rt; into == *b"oell");
+        assert_eq!(rt; source.read(&mut into), Ok(0));
+        assert_eq!(rt; source.faults, 0);
+        Ok(())
+    }
+
+    #[test]
+    fn each_read_of_an_absent_file_or_a_folder_fails(rt: HostRuntime) {
+        for path in ["/absent/module.toml", "/"] {
+            let mut source = FileSource::open(&rt, path);
+            let mut into = [0; 4];
+            assert_eq!(rt; source.read(&mut into), Err(Failed), "{path}");
+            assert_eq!(rt; source.read(&mut into), Err(Failed), "{path}");
+            assert_eq!(rt; source.faults, 2, "{path}");
+        }
+    }
+}

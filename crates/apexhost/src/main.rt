@@ -1,0 +1,38 @@
+//! The program: files, standard input and standard output as the outside of the host.
+#![tactic(auto)]
+
+mod arguments;
+mod file_rig;
+mod file_source;
+mod input_source;
+mod reading;
+mod streams;
+
+use apex_host::{Status, host};
+use arguments::command_words;
+use file_rig::FileRig;
+use file_source::FileSource;
+use input_source::InputSource;
+use std::io;
+use std::process::ExitCode;
+use std::rt::{Env, Files};
+use streams::StreamHolders;
+
+/// The module table's file, in the present folder.
+const TABLE_FILE: &str = "module.toml";
+
+fn main(rt: HostRuntime) -> ExitCode {
+    ExitCode::from(run(&rt).code())
+}
+
+/// Carries out the command line. Where no memory is found for its words nothing is told.
+fn run<R: Env + Files + Input + Print + AllocGlobal>(rt: &R) -> Status {
+    let _holders = StreamHolders::open(rt);
+    let Ok(words) = command_words(rt) else {
+        return Status::OutOfMemory;
+    };
+    let mut table = FileSource::open(rt, TABLE_FILE);
+    let mut script = InputSource::new(rt);
+    let mut rig = FileRig::new(io::writer(rt));
+    host(rt.alloc(), &words, &mut table, &mut script, &mut rig)
+}
