@@ -1,0 +1,17 @@
+pub mod AlikeBooks
+pub mod AlikeDirectories
+pub mod AlikeFiles
+pub mod AlikePorts
+pub mod AlikeWords
+pub mod AlikeWorlds
+pub mod DirectoryCalls
+pub mod FileCalls
+pub mod FileSystems
+pub mod FilesBeside
+pub mod Handles
+pub mod Isolation
+pub mod Places
+pub mod Refusals
+pub mod SamplingCalls
+pub mod Steps
+pub mod TreeChanges
