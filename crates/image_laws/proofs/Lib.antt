@@ -1,0 +1,10 @@
+pub mod EmptyBooks
+pub mod EmptyImages
+pub mod EmptyPlaces
+pub mod EmptyTrees
+pub mod MappedEntries
+pub mod TableSizes
+pub mod UnnamedBlocks
+pub mod UnnamedWrites
+pub mod WorkedImages
+pub mod Zeros

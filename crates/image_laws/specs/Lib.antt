@@ -1,0 +1,3 @@
+pub mod EmptyImage
+pub mod Laws
+pub mod NamedBlocks
