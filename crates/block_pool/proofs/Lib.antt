@@ -1,0 +1,11 @@
+pub mod Counts
+pub mod Exchanged
+pub mod Free
+pub mod Fresh
+pub mod Held
+pub mod Made
+pub mod Mapped
+pub mod Moves
+pub mod Paths
+pub mod Places
+pub mod Walks

@@ -1,0 +1,12 @@
+//! Fixed nodes in lists by index, and buffers of blocks that stand in such lists.
+#![tactic(auto)]
+
+mod buffers;
+mod links;
+mod lists;
+mod pool;
+#[cfg(test)]
+mod tests;
+
+pub use lists::IndexLists;
+pub use pool::Pool;
