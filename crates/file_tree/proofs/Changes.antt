@@ -187,7 +187,7 @@ has_room files directories parent name used few =
     let room : length s.0 ≤ 5 = omega arith in
     record { before = s.0; way_is = way-higher directories 6 5 parent s.0 (sym (way_of-value files directories parent) ∙ s.1) room; path_is = is }
 
-nothing_at : (files directories : List (Option Entry)) (parent : ℕ) (name : Name) (r : Room files directories parent name) → standing_at (value_of files directories).nodes (path_in (value_of files directories) parent name) ≡ None
+pub nothing_at : (files directories : List (Option Entry)) (parent : ℕ) (name : Name) (r : Room files directories parent name) → standing_at (value_of files directories).nodes (path_in (value_of files directories) parent name) ≡ None
     → find path_cmp (r.before ++ name ∷ []) (nodes_of (paths directories files) (paths directories directories)) ≡ None
 unfolding value_of
 nothing_at files directories parent name r free =

@@ -1,6 +1,10 @@
+pub mod Applied
 pub mod Changes
 pub mod Children
 pub mod Counts
+pub mod ImageEntries
+pub mod ImageRecords
+pub mod ImageSound
 pub mod LeastNames
 pub mod Listing
 pub mod Paths

@@ -38,7 +38,8 @@ pub way-directory : (directories : List (Option Entry)) (depth d : ℕ) → way 
 unfolding way
 way-directory directories depth d = refl
 
-way-none : (directories : List (Option Entry)) (d : ℕ) (w : List Name) → way directories zero (suc d) ≢ Some w
+-- nothing but the root lies no names deep
+pub way-none : (directories : List (Option Entry)) (d : ℕ) (w : List Name) → way directories zero (suc d) ≢ Some w
 unfolding way
 way-none directories d w h = cc
 

@@ -1,6 +1,7 @@
 -- Entries with a parent and a name, and the paths that they stand for.
 use Rattle.std.specs.Prelude.{◌≡◌, ℕ, zero, suc, Bool, false, ◌≤◌, ◌&&◌, ◌==◌, List, [], ◌∷◌, ◌++◌, length, map, Option, Some, None, option_map, IsSome, bytes_eq}
 use Rattle.apex_model.specs.Trees.{Name}
+use Rattle.apex_types.specs.declared.numbers.DirNode.{DirNode}
 use Rattle.file_tree.specs.declared.entries.Entry.{Entry}
 use Rattle.file_tree.specs.Entries.{TreeValue, slot, nodes_of, AreDistinct}
 
@@ -46,3 +47,8 @@ pub record AreSound (files directories : List (Option Entry)) : Type 0 where
 abbrev pub is_child : ℕ → Name → Option Entry → Bool
 is_child parent name None = false
 is_child parent name (Some entry) = (entry.parent.0 == parent) && bytes_eq entry.name name
+
+-- the directory of an entry in use
+abbrev pub parent_at : Option Entry → Option DirNode
+parent_at None = None
+parent_at (Some entry) = Some entry.parent

@@ -4,6 +4,7 @@
 mod child;
 mod entries;
 mod least;
+mod places;
 mod tree;
 
 pub use tree::Tree;

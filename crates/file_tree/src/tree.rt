@@ -3,11 +3,13 @@ ghost use Rattle.apex_model.specs.Handles.{free_from};
 ghost use Rattle.apex_model.specs.Trees.{standing_at, walk, entries_within, file_count};
 ghost use Rattle.file_tree.specs.Entries.{slot, way_of, path_in, no_entries, with_file, with_directory, without_file, without_directory, with_file_at, IsSpotAt, IsNextSpot, IsConsistent};
 ghost use Rattle.file_tree.specs.Children.{IsChildAt};
+ghost use Rattle.file_tree.specs.Records.{takes as takes_name, new_file, new_directory, gone_file, gone_directory, moved_file, applied, IsMade};
 
 use crate::child::Child;
 use crate::entries::{Entry, child_place, free_place, unused_entries, used_entries};
 use crate::least::{directory_spot, file_spot, is_second_first, least_place};
-use apex_types::{DirNode, Errno, FileNode, Name, OutOfMemory, Path, Spot};
+use crate::places::{has_way, is_unused, is_used};
+use apex_types::{DirNode, Errno, FileNode, Name, OutOfMemory, Path, RecordField, Spot};
 use std::alloc::Global;
 use std::marker::Model;
 
@@ -47,6 +49,13 @@ impl Tree {
         ensures consistent { IsConsistent self.now }
     {
         used_entries(&self.files) as u32
+    }
+
+    /// What holds of every tree; a caller learns it here.
+    pub fn stand(&self)
+        ensures { IsConsistent self.now }
+    {
+        let _files = &self.files;
     }
 
     /// What stands at this name of a directory.
@@ -192,6 +201,115 @@ impl Tree {
         }
         self.directories[directory.0 as usize - 1] = None;
         Ok(())
+    }
+
+    /// Whether a directory in use takes this name: its path has at most 6 names, and nothing stands there.
+    fn takes(&self, parent: DirNode, name: &Name) -> bool
+        ensures { result ≡ takes_name self.now parent.0 name.now }
+    {
+        if !has_way(&self.directories, parent) {
+            return false;
+        }
+        match self.child(parent, name) {
+            Child::Nothing => true,
+            Child::File(_) => false,
+            Child::Directory(_) => false,
+        }
+    }
+
+    /// Makes a file at an unused entry, where the parent takes its name.
+    fn put_file(&mut self, index: u8, parent: DirNode, name: &Option<Name>) -> bool
+        ensures { IsMade (new_file self.old index parent.0 name.now) self.old self.new result }
+    {
+        let Some(name) = name else {
+            return false;
+        };
+        if !is_unused(&self.files, index as usize) {
+            return false;
+        }
+        if !self.takes(parent, name) {
+            return false;
+        }
+        self.files[index as usize] = Some(Entry {
+            parent,
+            name: name.copy(),
+        });
+        true
+    }
+
+    /// Makes a directory at an unused entry, where the parent takes its name.
+    fn put_directory(&mut self, index: u8, parent: DirNode, name: &Option<Name>) -> bool
+        ensures { IsMade (new_directory self.old index parent.0 name.now) self.old self.new result }
+    {
+        let Some(name) = name else {
+            return false;
+        };
+        if !is_unused(&self.directories, index as usize) {
+            return false;
+        }
+        if !self.takes(parent, name) {
+            return false;
+        }
+        self.directories[index as usize] = Some(Entry {
+            parent,
+            name: name.copy(),
+        });
+        true
+    }
+
+    /// Removes the file of an entry in use.
+    fn drop_file(&mut self, index: u8) -> bool
+        ensures { IsMade (gone_file self.old index) self.old self.new result }
+    {
+        if !is_used(&self.files, index as usize) {
+            return false;
+        }
+        self.remove_file(FileNode(index));
+        true
+    }
+
+    /// Removes the directory of an entry in use, where nothing stands in it.
+    fn drop_directory(&mut self, index: u8) -> bool
+        ensures { IsMade (gone_directory self.old index) self.old self.new result }
+    {
+        if !is_used(&self.directories, index as usize) {
+            return false;
+        }
+        match self.remove_dir(DirNode(index + 1)) {
+            Ok(()) => true,
+            Err(_) => false,
+        }
+    }
+
+    /// Gives the file of an entry in use another name, where the parent takes it.
+    fn move_file(&mut self, index: u8, parent: DirNode, name: &Option<Name>) -> bool
+        ensures { IsMade (moved_file self.old index parent.0 name.now) self.old self.new result }
+    {
+        let Some(name) = name else {
+            return false;
+        };
+        if !is_used(&self.files, index as usize) {
+            return false;
+        }
+        if !self.takes(parent, name) {
+            return false;
+        }
+        self.rename(FileNode(index), parent, name.copy());
+        true
+    }
+
+    /// Changes the names by a record of a journal. False, with nothing changed, comes exactly where the
+    /// record does not apply.
+    pub fn apply(&mut self, change: &RecordField) -> bool
+        ensures { IsMade (applied self.old change.now) self.old self.new result }
+    {
+        match change.kind {
+            1 => self.put_file(change.index, change.parent, &change.name),
+            2 => self.put_directory(change.index, change.parent, &change.name),
+            3 => self.drop_file(change.index),
+            4 => self.drop_directory(change.index),
+            _ => self.move_file(change.index, change.parent, &change.name),
+        }
     }
 }
 

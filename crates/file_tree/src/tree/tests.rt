@@ -128,3 +128,97 @@ fn a_listing_goes_by_the_bytes_of_names(rt: HostRuntime) -> Result<(), Fail> {
     assert!(rt; text.as_slice() == b"-- A AB ABC _ z ".as_slice());
     Ok(())
 }
+
+/// A record with a name.
+fn named(kind: u8, index: u8, parent: u8, name: &[u8]) -> RecordField {
+    RecordField {
+        kind,
+        index,
+        parent: DirNode(parent),
+        name: Name::read(name),
+    }
+}
+
+/// A record without one.
+fn unnamed(kind: u8, index: u8) -> RecordField {
+    RecordField {
+        kind,
+        index,
+        parent: DirNode(0),
+        name: None,
+    }
+}
+
+#[test]
+fn records_change_names(rt: HostRuntime) -> Result<(), Fail> {
+    let mut tree = Tree::new(rt.alloc(), 4, 4)?;
+    assert!(rt; tree.apply(&named(2, 3, 0, b"LOGS")));
+    assert!(rt; tree.apply(&named(1, 2, 4, b"A")));
+    let path = Path::read(b"/NV1/FMS/LOGS/A").ok().ok_or("no path")?;
+    assert!(rt;
+        matches!(
+            &tree.walk(&path),
+            Ok(Spot::File {
+                node: FileNode(2),
+                ..
+            })
+        )
+    );
+    assert!(rt; tree.apply(&named(5, 2, 0, b"B")));
+    assert!(rt; matches!(&tree.walk(&path), Ok(Spot::Free { .. })));
+    assert!(rt; tree.apply(&unnamed(4, 3)));
+    let moved = Path::read(b"/NV1/FMS/B").ok().ok_or("no path")?;
+    assert!(rt;
+        matches!(
+            &tree.walk(&moved),
+            Ok(Spot::File {
+                node: FileNode(2),
+                ..
+            })
+        )
+    );
+    assert!(rt; tree.apply(&unnamed(3, 2)));
+    assert!(rt; matches!(&tree.walk(&moved), Ok(Spot::Free { .. })));
+    assert_eq!(rt; tree.files(), 0);
+    Ok(())
+}
+
+#[test]
+fn records_that_do_not_apply_change_nothing(rt: HostRuntime) -> Result<(), Fail> {
+    let mut tree = Tree::new(rt.alloc(), 4, 7)?;
+    assert!(rt; tree.apply(&named(1, 0, 0, b"A")));
+    for depth in 0..5u8 {
+        assert!(rt; tree.apply(&named(2, depth, depth, b"D")));
+    }
+    // an entry that is used, and one that is not there
+    assert!(rt; !tree.apply(&named(1, 0, 0, b"B")));
+    assert!(rt; !tree.apply(&named(1, 4, 0, b"B")));
+    assert!(rt; !tree.apply(&named(2, 0, 0, b"B")));
+    assert!(rt; !tree.apply(&named(2, 7, 0, b"B")));
+    // a parent that is not there, also its own
+    assert!(rt; !tree.apply(&named(1, 1, 7, b"B")));
+    assert!(rt; !tree.apply(&named(2, 6, 7, b"B")));
+    // a name that is not free
+    assert!(rt; !tree.apply(&named(1, 1, 0, b"A")));
+    assert!(rt; !tree.apply(&named(1, 1, 0, b"D")));
+    assert!(rt; !tree.apply(&named(2, 6, 0, b"A")));
+    // no name
+    assert!(rt; !tree.apply(&unnamed(1, 1)));
+    assert!(rt; !tree.apply(&unnamed(2, 6)));
+    assert!(rt; !tree.apply(&unnamed(5, 0)));
+    // nothing to remove, and a directory with something in it
+    assert!(rt; !tree.apply(&unnamed(3, 1)));
+    assert!(rt; !tree.apply(&unnamed(4, 6)));
+    assert!(rt; !tree.apply(&unnamed(4, 255)));
+    assert!(rt; !tree.apply(&unnamed(4, 0)));
+    // its own name, one that is not free, and no file
+    assert!(rt; !tree.apply(&named(5, 0, 0, b"A")));
+    assert!(rt; !tree.apply(&named(5, 0, 0, b"D")));
+    assert!(rt; !tree.apply(&named(5, 1, 0, b"B")));
+    // a seventh name
+    assert!(rt; tree.apply(&named(2, 5, 5, b"D")));
+    assert!(rt; !tree.apply(&named(2, 6, 6, b"D")));
+    assert!(rt; !tree.apply(&named(5, 0, 6, b"A")));
+    assert_eq!(rt; tree.files(), 1);
+    Ok(())
+}

@@ -1,0 +1,11 @@
+//! How many blocks the files of a tree are charged for, and which blocks of a tree are used.
+#![tactic(auto)]
+
+mod blocks;
+mod charges;
+
+pub use blocks::Blocks;
+pub use charges::Charges;
+
+#[cfg(test)]
+mod tests;

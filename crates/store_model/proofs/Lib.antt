@@ -1,0 +1,17 @@
+pub mod Changes
+pub mod Counts
+pub mod Entries
+pub mod Handles
+pub mod HandlesHeld
+pub mod HandlesMoved
+pub mod Listing
+pub mod Names
+pub mod Spots
+pub mod Systems
+pub mod SystemsFiles
+pub mod SystemsGrown
+pub mod SystemsHeld
+pub mod SystemsMoved
+pub mod SystemsStarted
+pub mod SystemsSteps
+pub mod SystemsWords

@@ -1,0 +1,2 @@
+//! What the store of a tree and the handles into it stand for.
+#![tactic(auto)]

@@ -1,0 +1,4 @@
+pub mod Changes
+pub mod Invariant
+pub mod Lending
+pub mod Refusals
