@@ -43,7 +43,10 @@ fn lines_are_refused_for_their_first_error(rt: HostRuntime) -> Result<(), Fail> 
     let table = two_partitions(alloc)?;
     let cases: [(&[u8], ScriptError); 14] = [
         (b"FMS", ScriptError::UnknownCall { line: 1 }),
-        (b"FMS READ_FILE 1 1", ScriptError::UnknownCall { line: 1 }),
+        (
+            b"FMS READ_LOGBOOK 1 1",
+            ScriptError::UnknownCall { line: 1 },
+        ),
         (b"FMS MODE IDLE", ScriptError::UnknownCall { line: 1 }),
         (
             b"fms GET_FILE_STATUS 1",
