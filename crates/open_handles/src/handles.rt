@@ -77,6 +77,14 @@ impl Handles {
         })
     }
 
+    /// The number that the next file handle of a partition gets. None comes exactly where all are used.
+    pub fn free_file(&self, p: PartitionId) -> Option<u32>
+        requires { p.0 < length self.now }
+        ensures { result ≡ least_free (nodes.handles_of self.now p.0).files }
+    {
+        self.partitions[p.0 as usize].files.free()
+    }
+
     /// Opens a handle on a directory, before its first name, with the least free number. None comes exactly where all are used.
     pub fn open_directory(&mut self, p: PartitionId, tree: u32, directory: DirNode) -> Option<u32>
         requires { p.0 < length self.old }

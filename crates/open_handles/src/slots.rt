@@ -63,6 +63,14 @@ impl<H: Drop, const N: usize> Slots<H, N> {
         }
     }
 
+    /// The least free number, if there is one.
+    pub fn free(&self) -> Option<u32>
+        ensures { result ≡ least_free self.now }
+    {
+        let _places = &self.places;
+        least_free_number(&self.places)
+    }
+
     /// Opens a handle at the least free number. Where none is free, nothing changes.
     pub fn open(&mut self, handle: H) -> Option<u32>
         ensures number { result ≡ least_free self.old }

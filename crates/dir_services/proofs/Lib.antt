@@ -1,0 +1,5 @@
+pub mod ListingLaws
+pub mod MakingLaws
+pub mod OpeningLaws
+pub mod PathLaws
+pub mod RemovingLaws

@@ -1,0 +1,14 @@
+pub mod Carried
+pub mod ChangingLaws
+pub mod ClosingLaws
+pub mod FreePaths
+pub mod Held
+pub mod MakingLaws
+pub mod NewNames
+pub mod OpeningLaws
+pub mod ReadingLaws
+pub mod RemovingLaws
+pub mod RenamingLaws
+pub mod SeekingLaws
+pub mod ServingLaws
+pub mod VolumesLaws

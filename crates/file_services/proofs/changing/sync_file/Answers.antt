@@ -1,0 +1,14 @@
+use Rattle.std.proofs.Common.{sym}
+use Rattle.service_parts.proofs.Served.{served-told}
+use Rattle.file_services.proofs.ChangingLaws.{sync-bad_id, sync-readonly, sync-stale}
+use Rattle.file_services.proofs.changing.sync_file.Goals as goal
+
+pub returns-in_default-clause-served : goal.returns-in_default-clause-served
+returns-in_default-clause-served g c = served-told c.refusal.ensures (sync-bad_id c.args.trees.now c.args.handles.now c.args.p.0 c.args.id (sym c.in_default.ensures))
+
+pub returns-in_default-mode-clause-served : goal.returns-in_default-mode-clause-served
+returns-in_default-mode-clause-served g c = served-told c.refusal-in_default-mode.ensures (sync-readonly c.args.trees.now c.args.handles.now c.args.p.0 c.args.id c.in-Some.handle (sym c.in-Some.ensures) c.in_default-mode.is)
+
+pub returns-in_default-file-clause-served : goal.returns-in_default-file-clause-served
+returns-in_default-file-clause-served g c =
+    served-told c.refusal-in_default-file.ensures (sync-stale c.args.trees.now c.args.handles.now c.args.p.0 c.args.id c.in-Some.handle (sym c.in-Some.ensures) c.in-ReadWrite.is c.in_default-file.is)
