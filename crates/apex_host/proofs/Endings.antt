@@ -13,7 +13,7 @@ use Rattle.call_script.specs.Errors.{refusal_of}
 use Rattle.apex_host.specs.Statuses.{HasCauseSoFar}
 use Rattle.call_script.specs.declared.errors.ScriptError.{ScriptError}
 use Rattle.apex_host.specs.Stops.{StopsFor, RefusesScript, ToldBefore, IsQuiet, status_of_stop, line_of_stop}
-use Rattle.apex_host.specs.Told.{TellsTableRefused, TellsScriptRefused, TellsSourceFault, TellsSome, TellsPart, AcceptsTable, table_refused, script_refused, table_fault, script_fault, replies, table_fault_line, script_fault_line}
+use Rattle.apex_host.specs.Told.{TellsTableRefused, TellsScriptRefused, TellsSourceFault, TellsSome, TellsPart, AcceptsTable, AcceptsBoth, table_refused, script_refused, table_fault, script_fault, replies, table_fault_line, script_fault_line}
 use Rattle.apex_host.specs.declared.status.Status.{Status}
 use Rattle.apex_host.specs.declared.status.Status.TheVariants.{Done, Usage, TableRefused, ScriptRefused, SourceFault, ReplyFault, OutOfMemory}
 use Rattle.apex_host.specs.declared.stops.Stop.{Stop}
@@ -170,3 +170,15 @@ only-memory stop.TableSource tb sb rows lines t l why a b d = absurd (a refl)
 only-memory stop.ScriptSource tb sb rows lines t l why a b d = absurd (b refl)
 only-memory stop.Tell tb sb rows lines t l why a b d = absurd (d refl)
 only-memory stop.Memory tb sb rows lines t l why a b d = refl
+
+-- what was accepted is not refused
+pub not-refused : (tb sb : List ℕ) (e : TableError) → AcceptsBoth tb sb → table_of tb ≡ Err e → ⊥
+not-refused tb sb e both refused = let w : ◌≡◌ {A = Result Rows TableError} (Ok both.table) (Err e) = sym both.accepted ∙ refused in cc
+
+pub not-misspelled : (tb sb : List ℕ) (rows : Rows) (r : Refusal) → AcceptsBoth tb sb → table_of tb ≡ Ok rows → script_of rows sb ≡ Err r → ⊥
+not-misspelled tb sb rows r both read refused =
+    let w : ◌≡◌ {A = Result Rows TableError} (Ok both.table) (Ok rows) = sym both.accepted ∙ read in
+    let same : both.table ≡ rows = cc in
+    let P : Rows → Type 0 = λ table. script_of table sb ≡ Ok both.lines in
+    let v : ◌≡◌ {A = Result (List Line) Refusal} (Ok both.lines) (Err r) = sym (subst P same both.spelled) ∙ refused in
+    cc

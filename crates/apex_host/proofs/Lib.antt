@@ -1,15 +1,8 @@
 pub mod Bounds
 pub mod Endings
-pub mod Making
-pub mod Names
-pub mod Naming
 pub mod Offers
-pub mod Positions
-pub mod Results
 pub mod Runs
 pub mod SourceReads
-pub mod Standing
 pub mod Starting
+pub mod Tellable
 pub mod StopLaws
-pub mod WriteSteps
-pub mod Writing

@@ -1,9 +1,6 @@
-pub mod Kept
 pub mod Reads
 pub mod Runs
 pub mod Sessions
 pub mod Statuses
 pub mod Stops
 pub mod Told
-pub mod Within
-pub mod Writes

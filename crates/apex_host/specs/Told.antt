@@ -1,8 +1,7 @@
 -- What the host tells.
-use Rattle.std.specs.Prelude.{◌≡◌, ◌⊎◌, ℕ, List, [], ◌∷◌, ◌++◌, take, IsNone, Ok, Err, codes, decimal, bytes_eq, Bool, false}
+use Rattle.std.specs.Prelude.{◌≡◌, ◌⊎◌, ℕ, List, [], ◌∷◌, ◌++◌, take, Ok, Err, codes, decimal, bytes_eq, Bool, false}
 use Rattle.apex_types.specs.Rows.{Rows}
 use Rattle.apex_types.specs.declared.calls.Line.{Line}
-use Rattle.apex_types.specs.declared.replies.Reply.{Reply}
 use Rattle.rig_core.specs.Outside.{IsToldPart}
 use Rattle.apex_model.specs.Durable.{start, empty_durable}
 use Rattle.apex_model.specs.Run.{replies_to, text_of, line_of}
@@ -12,11 +11,6 @@ use Rattle.table_model.specs.Table.{table_of}
 use Rattle.table_model.specs.declared.errors.TableError.{TableError}
 use Rattle.script_model.specs.Script.{Refusal, script_of}
 use Rattle.script_model.specs.Refusals.{refusal_line}
-use Rattle.call_script.specs.Replies.{HasData}
-
--- a reply has an errno or data, not both
-abbrev pub IsTellable : Reply → Type 0
-IsTellable reply = HasData reply.values → IsNone reply.errno
 
 -- the world in which a module of this table starts with nothing stored
 abbrev pub fresh_world : Rows → World
@@ -46,6 +40,13 @@ script_fault_line = codes "source fault script" ++ 10 ∷ []
 pub record AcceptsTable (table_bytes : List ℕ) : Type 0 where
   pub table : Rows
   pub accepted : table_of table_bytes ≡ Ok table
+
+-- the table and the script are accepted
+pub record AcceptsBoth (table_bytes script_bytes : List ℕ) : Type 0 where
+  pub table : Rows
+  pub lines : List Line
+  pub accepted : table_of table_bytes ≡ Ok table
+  pub spelled : script_of table script_bytes ≡ Ok lines
 
 -- the table and the script are accepted, and the reply lines of the run are told
 pub record TellsRun (table_bytes script_bytes old new : List ℕ) : Type 0 where

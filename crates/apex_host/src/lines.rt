@@ -1,5 +1,5 @@
 //! The lines of a script carried out one after the other, each reply told.
-ghost use Rattle.std.specs.Prelude.{◌≡◌, ◌++◌, ◌⊎◌, ◌≤◌, ◌<◌, ℕ, List, [], length, take, true, false, OnOk, Ok, Err};
+ghost use Rattle.std.specs.Prelude.{◌≡◌, ◌++◌, ◌⊎◌, ◌≤◌, ◌<◌, ℕ, List, [], length, take, OnOk, Ok, Err};
 ghost use Rattle.std.specs.List.{AllByRecursion};
 ghost use Rattle.apex_types.specs.Rows.{Rows};
 ghost use Rattle.apex_model.specs.Lines.{IsLineOf};
@@ -7,7 +7,7 @@ ghost use Rattle.apex_model.specs.Run.{text_of, told_for};
 ghost use Rattle.apex_model.specs.World.{World, world_after};
 ghost use Rattle.rig_core.specs.Causes.{Rose};
 ghost use Rattle.rig_core.specs.Outside.{IsToldPart};
-ghost use Rattle.apex_host.specs.Sessions.{table_of_session, has_failed, StandsFor, IsOffered};
+ghost use Rattle.apex_host.specs.Sessions.{table_of_session, IsReady, StandsFor, IsOffered};
 ghost use Rattle.apex_host.specs.Told.{run_text};
 
 use crate::session::Session;
@@ -24,10 +24,10 @@ pub enum LineStop {
 
 /// Carries out a line, and tells its reply.
 fn turn<R: Rig>(session: &mut Session, line: &Line, rig: &mut R) -> Result<(), LineStop>
-    requires alive { has_failed session.old ≡ false }
+    requires ready { IsReady session.old }
     requires of_table { IsLineOf (table_of_session session.old) line.now }
     requires offered { IsOffered line.now.deed }
-    ensures alive { OnOk result (has_failed session.new ≡ false) }
+    ensures ready { OnOk result (IsReady session.new) }
     ensures table { table_of_session session.new ≡ table_of_session session.old }
     ensures world { OnOk result ((w : World) → StandsFor session.old w → StandsFor session.new (world_after (table_of_session session.old) w line.now.deed)) }
     ensures told { R.tells_text → OnOk result ((w : World) → StandsFor session.old w
@@ -54,7 +54,7 @@ pub fn carry_out<R: Rig>(
     script: &Script,
     rig: &mut R,
 ) -> Result<(), LineStop>
-    requires alive { has_failed session.old ≡ false }
+    requires ready { IsReady session.old }
     requires of_table { AllByRecursion (IsLineOf (table_of_session session.old)) script.now }
     requires offered { AllByRecursion (λ line. IsOffered line.deed) script.now }
     ensures told { R.tells_text → OnOk result ((w : World) → StandsFor session.old w → (R.state rig.new).told ≡ (R.state rig.old).told ++ run_text (table_of_session session.old) w script.now) }

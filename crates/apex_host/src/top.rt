@@ -14,7 +14,7 @@ ghost use Rattle.script_model.specs.Refusals.{refusal_line};
 ghost use Rattle.apex_host.specs.Sessions.{IsOffered};
 ghost use Rattle.apex_host.specs.Statuses.{HasCauseSoFar};
 ghost use Rattle.apex_host.specs.Stops.{IsTableStop, IsScriptStop, StopsTable, StopsScript, StopsFor, ToldBefore, IsQuiet, status_of_stop, line_of_stop};
-ghost use Rattle.apex_host.specs.Told.{AcceptsTable, TellsRun, TellsTableRefused, TellsScriptRefused, TellsSourceFault, TellsSome, TellsPart, usage_line, table_refused_line, table_fault_line, script_fault_line, is_run};
+ghost use Rattle.apex_host.specs.Told.{AcceptsTable, AcceptsBoth, TellsRun, TellsTableRefused, TellsScriptRefused, TellsSourceFault, TellsSome, TellsPart, usage_line, table_refused_line, table_fault_line, script_fault_line, is_run};
 
 use crate::lines::{LineStop, carry_out};
 use crate::reading::{ReadStop, read_source};
@@ -78,6 +78,8 @@ fn execute<T: Source, S: Source, R: Rig>(
 ) -> Result<(), Stop>
     ensures done { (table_bytes script_bytes : List ℕ) → T.left table.old ≡ Some table_bytes → S.left script.old ≡ Some script_bytes
         → OnOk result ((T.left table.new ≡ Some []) × (S.left script.new ≡ Some [])) }
+    ensures accepted { (table_bytes script_bytes : List ℕ) → T.left table.old ≡ Some table_bytes → S.left script.old ≡ Some script_bytes
+        → OnOk result (AcceptsBoth table_bytes script_bytes) }
     ensures told { R.tells_text → (table_bytes script_bytes : List ℕ) → T.left table.old ≡ Some table_bytes → S.left script.old ≡ Some script_bytes
         → OnOk result (TellsRun table_bytes script_bytes (R.state rig.old).told (R.state rig.new).told) }
     ensures stopped { (table_bytes script_bytes : List ℕ) → T.left table.old ≡ Some table_bytes → S.left script.old ≡ Some script_bytes
@@ -195,6 +197,13 @@ pub fn host<T: Source, S: Source, R: Rig>(
         → result ≡ Status.TableRefused → (e : TableError) × (table_of table_bytes ≡ Err e) }
     ensures script_cause { (table_bytes script_bytes : List ℕ) → T.left table.old ≡ Some table_bytes → S.left script.old ≡ Some script_bytes
         → result ≡ Status.ScriptRefused → (rows : Rows) × (refusal : Refusal) × (table_of table_bytes ≡ Ok rows) × (script_of rows script_bytes ≡ Err refusal) }
+    ensures table_always { (table_bytes script_bytes : List ℕ) (e : TableError) → T.left table.old ≡ Some table_bytes → S.left script.old ≡ Some script_bytes
+        → is_run words.now ≡ true → table_of table_bytes ≡ Err e → ¬ (Rose (T.faults table.old) (T.faults table.new)) → ¬ (Rose (R.state rig.old).tell_faults (R.state rig.new).tell_faults)
+        → (result ≡ Status.TableRefused) ⊎ (result ≡ Status.OutOfMemory) }
+    ensures script_always { (table_bytes script_bytes : List ℕ) (rows : Rows) (refusal : Refusal) → T.left table.old ≡ Some table_bytes → S.left script.old ≡ Some script_bytes
+        → is_run words.now ≡ true → table_of table_bytes ≡ Ok rows → script_of rows script_bytes ≡ Err refusal
+        → ¬ (Rose (T.faults table.old) (T.faults table.new)) → ¬ (Rose (S.faults script.old) (S.faults script.new)) → ¬ (Rose (R.state rig.old).tell_faults (R.state rig.new).tell_faults)
+        → (result ≡ Status.ScriptRefused) ⊎ (result ≡ Status.OutOfMemory) }
     ensures source_cause { result ≡ Status.SourceFault → Rose (T.faults table.old) (T.faults table.new) ⊎ Rose (S.faults script.old) (S.faults script.new) }
     ensures source_order { (table_bytes script_bytes : List ℕ) → T.left table.old ≡ Some table_bytes → S.left script.old ≡ Some script_bytes
         → result ≡ Status.SourceFault → Rose (T.faults table.old) (T.faults table.new) ⊎ AcceptsTable table_bytes }

@@ -1,3 +1,7 @@
+mod directory_calls;
+mod file_calls;
+mod refusals;
+
 use apex_host::{Status, host};
 use apex_types::{ByteList, CallKind, FailList, NumberList, OutOfMemory, Words};
 use rig_core::{MemRig, MemSource};
@@ -138,7 +142,7 @@ fn refused_scripts_carry_nothing_out(rt: HostRuntime) -> Result<(), Fail> {
             b"script refused 3 UnknownPartition line 3\n"
         )?
     );
-    let later = b"FMS CLOSE_FILE 1\n";
+    let later = b"FMS CREATE_LOGBOOK FAULTS\n";
     assert!(rt;
         runs(
             rt.alloc(),
@@ -248,7 +252,8 @@ fn each_telling_can_fail(rt: HostRuntime) -> Result<(), Fail> {
     Ok(())
 }
 
-/// Whether the first run ends well, or for want of memory with whole lines told.
+/// Whether the first run ends well, or for want of memory with whole lines told: of the host's, or of the rig's, whose
+/// record of a telling can't grow then.
 fn ends_or_wants_memory(alloc: Global) -> Result<bool, OutOfMemory> {
     let mut words = Words::new(alloc);
     words.push(b"run")?;
@@ -259,6 +264,9 @@ fn ends_or_wants_memory(alloc: Global) -> Result<bool, OutOfMemory> {
         match host(alloc, &words, &mut table, &mut script, &mut rig) {
             Status::Done => rig.told() == FIRST_RUN_TOLD,
             Status::OutOfMemory => (0..4).any(|lines| rig.told() == told_until(lines)),
+            Status::ReplyFault => {
+                rig.starved() && (0..4).any(|lines| rig.told() == told_until(lines))
+            }
             _ => false,
         },
     )

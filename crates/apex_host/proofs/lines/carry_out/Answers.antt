@@ -23,11 +23,10 @@ lines-preserved g c =
     let table = table_of_session c.args.session.now in
     let at = c.lines.invariant.table in
     let line = c.line.result.now in
-    let alive = c.in-Ok.ensures.alive in
     let later = c.turn.ensures.later in
     let before = c.lines.invariant.later in
     record {
-      alive = alive;
+      ready = c.in-Ok.ensures.ready;
       table = c.turn.ensures.table ∙ at;
       world = λ w stands.
           let here = world_after_all table [] w (take c.lines.k c.args.script.now) in
