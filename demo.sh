@@ -1,5 +1,5 @@
 #!/bin/sh
-# Builds apexhost and runs its main job on two examples: a module's table and a script of service calls.
+# Builds apexhost and runs its main job on four examples: a module's table and a script of service calls.
 # It shows each script, what the program told and its exit status, in fresh temporary folders.
 # The checkout stays as it was, but for the folders out/ that the build makes.
 #
@@ -58,4 +58,6 @@ show_run() {
 
 show_run small.toml one_file.script one_file.told
 show_run module.toml first_run.script first_run.told
-echo "These are the lines of examples/one_file.told and first_run.told, worked out apart from the program."
+show_run module.toml file_services.script file_services.told
+show_run module.toml directories.script directories.told
+echo "These are the lines of the files examples/*.told, worked out apart from the program."

@@ -69,7 +69,7 @@ def statuses(lines):
 
 
 def appends(lines):
-    """Eight bytes more for one file in each line. A store in memory copies the file's content at each."""
+    """Eight bytes more for one file in each line."""
     return opened(1) + [f"{CALLER} WRITE_FILE 1 0123456789abcdef"] * (lines - 1)
 
 
