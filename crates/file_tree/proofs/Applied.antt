@@ -260,24 +260,24 @@ one-moved_file v w f parent o name e used taken h = ap (moved_file v f parent) e
 
 module _ (files directories : List (Option Entry)) (v : TreeValue) (is : value_of files directories ≡ v) (sound : AreSound files directories)
     (parent : DirNode) (name : Name) (taken : takes v parent.0 name ≡ true) (k : ℕ) where
-  pub put_file : is_unused files k ≡ true → Becomes (set files k (Some (record { parent = parent; name = name }))) directories (with_file v k (path_in v parent.0 name))
+  pub put_file : is_unused files k ≡ true → Becomes (set files k (Some (record { parent = parent; name = name; stored = (0, 0) }))) directories (with_file v k (path_in v parent.0 name))
   put_file free =
       let t = taking v parent.0 name taken in
       let u = unused-is files k free in
       subst (λ (v : TreeValue). IsSome (way_of v parent.0) → length (path_in v parent.0 name) ≤ 6 → standing_at v.nodes (path_in v parent.0 name) ≡ None
-      → Becomes (set files k (Some (record { parent = parent; name = name }))) directories (with_file v k (path_in v parent.0 name))) is
+      → Becomes (set files k (Some (record { parent = parent; name = name; stored = (0, 0) }))) directories (with_file v k (path_in v parent.0 name))) is
       (λ used few none.
       let r = has_room files directories parent.0 name used few in
-      let b = file_made files directories sound k (record { parent = parent; name = name }) r.before r.way_is (nothing_at files directories parent.0 name r none) u.0 u.1 in
+      let b = file_made files directories sound k (record { parent = parent; name = name; stored = (0, 0) }) r.before r.way_is (nothing_at files directories parent.0 name r none) u.0 u.1 in
       record { sound = b.sound; is = b.is ∙ ap (with_file (value_of files directories) k) (sym r.path_is) }) t.used t.few t.free
 
-  pub put_directory : is_unused directories k ≡ true → Becomes files (set directories k (Some (record { parent = parent; name = name }))) (with_directory v k (path_in v parent.0 name))
+  pub put_directory : is_unused directories k ≡ true → Becomes files (set directories k (Some (record { parent = parent; name = name; stored = (0, 0) }))) (with_directory v k (path_in v parent.0 name))
   put_directory free =
       let t = taking v parent.0 name taken in
       let u = unused-is directories k free in
       subst (λ (v : TreeValue). IsSome (way_of v parent.0) → length (path_in v parent.0 name) ≤ 6 → standing_at v.nodes (path_in v parent.0 name) ≡ None
-      → Becomes files (set directories k (Some (record { parent = parent; name = name }))) (with_directory v k (path_in v parent.0 name))) is
+      → Becomes files (set directories k (Some (record { parent = parent; name = name; stored = (0, 0) }))) (with_directory v k (path_in v parent.0 name))) is
       (λ used few none.
       let r = has_room files directories parent.0 name used few in
-      let b = directory_made files directories sound k (record { parent = parent; name = name }) r.before r.way_is (nothing_at files directories parent.0 name r none) u.0 u.1 in
+      let b = directory_made files directories sound k (record { parent = parent; name = name; stored = (0, 0) }) r.before r.way_is (nothing_at files directories parent.0 name r none) u.0 u.1 in
       record { sound = b.sound; is = b.is ∙ ap (with_directory (value_of files directories) k) (sym r.path_is) }) t.used t.few t.free

@@ -1,7 +1,7 @@
 -- What a change of one entry does to the paths of all.
 use Rattle.std.proofs.Common.{◌≡◌, ◌≢◌, ℕ, zero, suc, ◌+◌, ◌<◌, ◌≤◌, true, false, cond, not, List, [], ◌∷◌, ◌++◌, length, set, replicate, refl, sym, ap, subst, ◌∙◌, Option, Some, None, IsSome, IfSome, arith, length-append, length-set, get_or-set_same}
 use Rattle.std.proofs.lemmas.List.{map-set, length-map, set-set, length-replicate}
-use Rattle.std.specs.Prelude.{option_map, unwrap_or}
+use Rattle.std.specs.Prelude.{option_map, unwrap_or, slice_set}
 use Rattle.std.specs.FinMap.Entries.{find, find-where_key}
 use Rattle.std.specs.Ordering.{eq_by_cmp}
 use Rattle.apex_model.specs.Handles.{free_from}
@@ -9,8 +9,8 @@ use Rattle.apex_model.specs.Trees.{Name, Node, directory, file, Tree, path_cmp, 
 use Rattle.apex_types.specs.declared.numbers.DirNode.{DirNode}
 use Rattle.apex_model.proofs.Trees.{path_cmp-IsAntisymmetric}
 use Rattle.file_tree.specs.declared.entries.Entry.{Entry}
-use Rattle.file_tree.specs.Entries.{TreeValue, slot, way_of, path_in, with_file, with_directory, without_file, without_directory, with_file_at, Place, in_file, in_directory, path_at, put_all, nodes_of, no_entries, AreDistinct}
-use Rattle.file_tree.specs.Table.{path_of, way, paths, value_of, HaveParents, AreSound}
+use Rattle.file_tree.specs.Entries.{TreeValue, slot, way_of, path_in, with_file, with_directory, without_file, without_directory, with_file_at, Place, in_file, in_directory, path_at, put_all, nodes_of, no_entries, stored_of, with_stored, AreDistinct}
+use Rattle.file_tree.specs.Table.{path_of, way, paths, stored_at, entry_with, stored_in, value_of, HaveParents, AreSound}
 use Rattle.file_tree.proofs.Paths.{Changed, changed_file, changed_directory, put_distinct, put_nodes, without_distinct, without_nodes, at_found}
 use Rattle.file_tree.proofs.Ways.{not_some, path-made, way-higher, way-grown, way-shrunk, slot-paths, paths-same, way_of-value, free-some, free-paths}
 
@@ -45,11 +45,15 @@ pub record Becomes (files directories : List (Option Entry)) (v : TreeValue) : T
   pub sound : AreSound files directories
   pub is : value_of files directories ≡ v
 
+-- with a file at an unused entry, of which this is stored
+abbrev pub with_file_of : ℕ × ℕ → TreeValue → ℕ → List Name → TreeValue
+with_file_of stored v f path = record { nodes = with_node v.nodes path (file f); files = slice_set v.files f (Some path); directories = v.directories; stored = slice_set v.stored f (Some stored) }
+
 module _ (files directories : List (Option Entry)) (sound : AreSound files directories) where
   module _ (k : ℕ) (entry : Entry) (before : List Name) (parent : way directories 5 entry.parent.0 ≡ Some before)
       (none : find path_cmp (before ++ entry.name ∷ []) (nodes_of (paths directories files) (paths directories directories)) ≡ None) where
     -- an unused entry becomes a file
-    pub file_made : k < length files → slot files k ≡ None → Becomes (set files k (Some entry)) directories (with_file (value_of files directories) k (before ++ entry.name ∷ []))
+    pub file_made : k < length files → slot files k ≡ None → Becomes (set files k (Some entry)) directories (with_file_of entry.stored (value_of files directories) k (before ++ entry.name ∷ []))
     unfolding value_of
     file_made room unused =
         let p = before ++ entry.name ∷ [] in
@@ -72,6 +76,7 @@ module _ (files directories : List (Option Entry)) (sound : AreSound files direc
             nodes = (ap (λ (xs : List (Option (List Name))). nodes_of xs D) listed ∙ put_nodes F D (set F k (Some p)) D (in_file k) p sound.distinct ch fresh free) i;
             files = listed i;
             directories = D;
+            stored = map-set (option_map (λ (e : Entry). e.stored)) files k (Some entry) i;
           };
         }
 
@@ -109,6 +114,7 @@ module _ (files directories : List (Option Entry)) (sound : AreSound files direc
             nodes = ((λ j. nodes_of (files_listed j) (listed j)) ∙ put_nodes F D F (set D k (Some p)) (in_directory k) p sound.distinct ch fresh free) i;
             files = files_listed i;
             directories = listed i;
+            stored = stored_in files;
           };
         }
 
@@ -133,6 +139,7 @@ module _ (files directories : List (Option Entry)) (sound : AreSound files direc
           nodes = (ap (λ (xs : List (Option (List Name))). nodes_of xs D) listed ∙ without_nodes F D (set F k None) D (in_file k) p sound.distinct ch was) i;
           files = listed i;
           directories = D;
+          stored = map-set (option_map (λ (e : Entry). e.stored)) files k None i;
         };
       }
 
@@ -168,6 +175,7 @@ module _ (files directories : List (Option Entry)) (sound : AreSound files direc
           nodes = ((λ j. nodes_of (files_listed j) (listed j)) ∙ without_nodes F D F (set D k None) (in_directory k) p sound.distinct ch was) i;
           files = files_listed i;
           directories = listed i;
+          stored = stored_in files;
         };
       }
 
@@ -196,32 +204,32 @@ nothing_at files directories parent name r free =
 
 pub made_file : (files directories : List (Option Entry)) (v : TreeValue) → value_of files directories ≡ v → AreSound files directories → (parent : DirNode) (name : Name)
     → IsSome (way_of v parent.0) → length (path_in v parent.0 name) ≤ 6 → standing_at v.nodes (path_in v parent.0 name) ≡ None → (k : ℕ) → free_from 0 files ≡ Some k
-    → Becomes (set files k (Some (record { parent = parent; name = name }))) directories (with_file v k (path_in v parent.0 name))
+    → Becomes (set files k (Some (record { parent = parent; name = name; stored = (0, 0) }))) directories (with_file v k (path_in v parent.0 name))
 made_file files directories v is sound parent name =
     subst (λ (v : TreeValue). IsSome (way_of v parent.0) → length (path_in v parent.0 name) ≤ 6 → standing_at v.nodes (path_in v parent.0 name) ≡ None → (k : ℕ) → free_from 0 files ≡ Some k
-    → Becomes (set files k (Some (record { parent = parent; name = name }))) directories (with_file v k (path_in v parent.0 name))) is
+    → Becomes (set files k (Some (record { parent = parent; name = name; stored = (0, 0) }))) directories (with_file v k (path_in v parent.0 name))) is
     (λ used few free k least.
     let r = has_room files directories parent.0 name used few in
     let l = free-some files 0 k least in
     let same : k ≡ l.0 = omega (arith, l.1) in
     let room : k < length files = omega (arith, l.1, l.2) in
     let unused : slot files k ≡ None = ap (slot files) same ∙ l.3 in
-    let b = file_made files directories sound k (record { parent = parent; name = name }) r.before r.way_is (nothing_at files directories parent.0 name r free) room unused in
+    let b = file_made files directories sound k (record { parent = parent; name = name; stored = (0, 0) }) r.before r.way_is (nothing_at files directories parent.0 name r free) room unused in
     record { sound = b.sound; is = b.is ∙ ap (with_file (value_of files directories) k) (sym r.path_is) })
 
 pub made_directory : (files directories : List (Option Entry)) (v : TreeValue) → value_of files directories ≡ v → AreSound files directories → (parent : DirNode) (name : Name)
     → IsSome (way_of v parent.0) → length (path_in v parent.0 name) ≤ 6 → standing_at v.nodes (path_in v parent.0 name) ≡ None → (k : ℕ) → free_from 0 directories ≡ Some k
-    → Becomes files (set directories k (Some (record { parent = parent; name = name }))) (with_directory v k (path_in v parent.0 name))
+    → Becomes files (set directories k (Some (record { parent = parent; name = name; stored = (0, 0) }))) (with_directory v k (path_in v parent.0 name))
 made_directory files directories v is sound parent name =
     subst (λ (v : TreeValue). IsSome (way_of v parent.0) → length (path_in v parent.0 name) ≤ 6 → standing_at v.nodes (path_in v parent.0 name) ≡ None → (k : ℕ) → free_from 0 directories ≡ Some k
-    → Becomes files (set directories k (Some (record { parent = parent; name = name }))) (with_directory v k (path_in v parent.0 name))) is
+    → Becomes files (set directories k (Some (record { parent = parent; name = name; stored = (0, 0) }))) (with_directory v k (path_in v parent.0 name))) is
     (λ used few free k least.
     let r = has_room files directories parent.0 name used few in
     let l = free-some directories 0 k least in
     let same : k ≡ l.0 = omega (arith, l.1) in
     let room : k < length directories = omega (arith, l.1, l.2) in
     let unused : slot directories k ≡ None = ap (slot directories) same ∙ l.3 in
-    let b = directory_made files directories sound k (record { parent = parent; name = name }) r.before r.way_is (nothing_at files directories parent.0 name r free) room unused in
+    let b = directory_made files directories sound k (record { parent = parent; name = name; stored = (0, 0) }) r.before r.way_is (nothing_at files directories parent.0 name r free) room unused in
     record { sound = b.sound; is = b.is ∙ ap (with_directory (value_of files directories) k) (sym r.path_is) })
 
 pub slot-within : {A : Type 0} (xs : List (Option A)) (i : ℕ) → IsSome (slot xs i) → i < length xs
@@ -256,13 +264,60 @@ missing tree p q h =
 
 renamed_into : (files directories : List (Option Entry)) → AreSound files directories → (k : ℕ) (entry : Entry) (before : List Name) → way directories 5 entry.parent.0 ≡ Some before
     → find path_cmp (before ++ entry.name ∷ []) (value_of files directories).nodes ≡ None → k < length files → slot files k ≡ None
-    → Becomes (set files k (Some entry)) directories (with_file (value_of files directories) k (before ++ entry.name ∷ []))
+    → Becomes (set files k (Some entry)) directories (with_file_of entry.stored (value_of files directories) k (before ++ entry.name ∷ []))
 unfolding value_of
 renamed_into files directories sound k entry before parent none room unused = file_made files directories sound k entry before parent none room unused
 
+-- ---- what is stored of a file's entry
+
+-- what is at a place is what is set there
+set-own : {A : Type 0} (xs : List (Option A)) (k : ℕ) → set xs k (slot xs k) ≡ xs
+set-own [] k = refl
+set-own (x ∷ xs) zero = refl
+set-own (x ∷ xs) (suc k) = ap (λ rest. x ∷ rest) (set-own xs k)
+
+pub stored-path : (directories entries : List (Option Entry)) (k : ℕ) (path : List Name) → slot (paths directories entries) k ≡ Some path → slot (stored_in entries) k ≡ Some (unwrap_or (slot (stored_in entries) k) (0, 0))
+stored-path directories [] k path h = absurd (not_some h)
+stored-path directories (None ∷ entries) zero path h = absurd (not_some h)
+stored-path directories (Some entry ∷ entries) zero path h = refl
+stored-path directories (entry ∷ entries) (suc k) path h = stored-path directories entries k path h
+
+slot-stored : (entries : List (Option Entry)) (k : ℕ) → slot (stored_in entries) k ≡ option_map (λ (e : Entry). e.stored) (slot entries k)
+slot-stored [] k = refl
+slot-stored (x ∷ entries) zero = refl
+slot-stored (x ∷ entries) (suc k) = slot-stored entries k
+
+some-used : (ways : ℕ → Option (List Name)) (place : Option Entry) (path : List Name) → path_of ways place ≡ Some path → IsSome place
+some-used ways None path h = absurd (not_some h)
+some-used ways (Some entry) path h = refl
+
+used-at : (files directories : List (Option Entry)) (v : TreeValue) → value_of files directories ≡ v → (k : ℕ) (path : List Name) → slot v.files k ≡ Some path → IsSome (slot files k)
+unfolding value_of
+used-at files directories v is k path was =
+    some-used (way directories 5) (slot files k) path (sym (slot-paths directories files k) ∙ ap (λ (v : TreeValue). slot v.files k) is ∙ was)
+
+-- what is stored of a place, as callers see it
+pub stored-seen : (files directories : List (Option Entry)) (v : TreeValue) → value_of files directories ≡ v → (k : ℕ) → stored_of v k ≡ stored_at (slot files k)
+unfolding value_of
+stored-seen files directories v is k =
+    ap (λ (v : TreeValue). stored_of v k) (sym is) ∙ ap (λ (o : Option (ℕ × ℕ)). unwrap_or o (0, 0)) (slot-stored files k)
+    ∙ (elim (slot files k) as (λ o. unwrap_or (option_map (λ (e : Entry). e.stored) o) (0, 0) ≡ stored_at o) [ None ↦ refl | Some e ↦ refl ])
+
+-- what is stored of an entry, as callers see it
+pub stored-here : (files directories : List (Option Entry)) (v : TreeValue) → value_of files directories ≡ v → (k : ℕ) (entry : Entry) → slot files k ≡ Some entry → stored_of v k ≡ entry.stored
+unfolding value_of
+stored-here files directories v is k entry h =
+    ap (λ (v : TreeValue). stored_of v k) (sym is) ∙ ap (λ (o : Option (ℕ × ℕ)). unwrap_or o (0, 0)) (slot-stored files k ∙ ap (option_map (λ (e : Entry). e.stored)) h)
+
+-- something is stored of a file's entry
+pub stored-used : (files directories : List (Option Entry)) (v : TreeValue) → value_of files directories ≡ v → (k : ℕ) (path : List Name) → slot v.files k ≡ Some path → slot v.stored k ≡ Some (stored_of v k)
+unfolding value_of
+stored-used files directories v is k path was =
+    subst (λ (v : TreeValue). slot v.stored k ≡ Some (stored_of v k)) is (stored-path directories files k path (ap (λ (v : TreeValue). slot v.files k) is ∙ was))
+
 pub renamed_file : (files directories : List (Option Entry)) (v : TreeValue) → value_of files directories ≡ v → AreSound files directories → (k : ℕ) (from : List Name) → slot v.files k ≡ Some from
     → (parent : DirNode) (name : Name) → IsSome (way_of v parent.0) → length (path_in v parent.0 name) ≤ 6 → standing_at v.nodes (path_in v parent.0 name) ≡ None
-    → Becomes (set files k (Some (record { parent = parent; name = name }))) directories (with_file_at v k from (path_in v parent.0 name))
+    → Becomes (set files k (Some (record { parent = parent; name = name; stored = stored_of v k }))) directories (with_file_at v k from (path_in v parent.0 name))
 renamed_file files directories v is sound k from was parent name used few free =
     let gone = removed_file files directories v is sound k from was in
     let room : k < length files = files-within files directories v is k (is_some was) in
@@ -271,13 +326,57 @@ renamed_file files directories v is sound k from was parent name used few free =
     let none : find path_cmp (r.before ++ name ∷ []) v.nodes ≡ None = sym (standing-below v.nodes r.before name) ∙ ap (standing_at v.nodes) (sym path) ∙ free in
     let left : find path_cmp (r.before ++ name ∷ []) (value_of (set files k None) directories).nodes ≡ None
     = ap (λ (v : TreeValue). find path_cmp (r.before ++ name ∷ []) v.nodes) gone.is ∙ missing v.nodes from (r.before ++ name ∷ []) none in
-    let entry : Entry = record { parent = parent; name = name } in
+    let entry : Entry = record { parent = parent; name = name; stored = stored_of v k } in
     let m = renamed_into (set files k None) directories gone.sound k entry r.before r.way_is left (subst (λ n. k < n) (sym (length-set files k None)) room) (get_or-set_same files k None None room) in
     let twice : set (set files k None) k (Some entry) ≡ set files k (Some entry) = set-set files k None (Some entry) in
+    let kept : set (set v.stored k None) k (Some (stored_of v k)) ≡ v.stored = set-set v.stored k None (Some (stored_of v k)) ∙ ap (set v.stored k) (sym (stored-used files directories v is k from was)) ∙ set-own v.stored k in
     record {
       sound = subst (λ (xs : List (Option Entry)). AreSound xs directories) twice m.sound;
-      is = ap (λ (xs : List (Option Entry)). value_of xs directories) (sym twice) ∙ m.is ∙ ap (λ (v : TreeValue). with_file v k (r.before ++ name ∷ [])) gone.is
-          ∙ (λ i. record { nodes = with_node (without_node v.nodes from) (sym path i) (file k); files = (set-set v.files k None (Some (r.before ++ name ∷ [])) ∙ ap (λ (p : List Name). set v.files k (Some p)) (sym path)) i; directories = v.directories });
+      is = ap (λ (xs : List (Option Entry)). value_of xs directories) (sym twice) ∙ m.is ∙ ap (λ (u : TreeValue). with_file_of (stored_of v k) u k (r.before ++ name ∷ [])) gone.is
+          ∙ (λ i. record { nodes = with_node (without_node v.nodes from) (sym path i) (file k); files = (set-set v.files k None (Some (r.before ++ name ∷ [])) ∙ ap (λ (p : List Name). set v.files k (Some p)) (sym path)) i; directories = v.directories; stored = kept i });
+    }
+
+-- the same with what is stored given
+pub renamed_with : (files directories : List (Option Entry)) (v : TreeValue) → value_of files directories ≡ v → AreSound files directories → (k : ℕ) (from : List Name) → slot v.files k ≡ Some from
+    → (parent : DirNode) (name : Name) (stored : ℕ × ℕ) → stored_of v k ≡ stored → IsSome (way_of v parent.0) → length (path_in v parent.0 name) ≤ 6 → standing_at v.nodes (path_in v parent.0 name) ≡ None
+    → Becomes (set files k (Some (record { parent = parent; name = name; stored = stored }))) directories (with_file_at v k from (path_in v parent.0 name))
+renamed_with files directories v is sound k from was parent name stored kept used few free =
+    subst (λ (st : ℕ × ℕ). Becomes (set files k (Some (record { parent = parent; name = name; stored = st }))) directories (with_file_at v k from (path_in v parent.0 name))) kept
+    (renamed_file files directories v is sound k from was parent name used few free)
+
+-- ---- another size and change count
+
+path-with : (ways : ℕ → Option (List Name)) (stored : ℕ × ℕ) (place : Option Entry) → path_of ways (option_map (entry_with stored) place) ≡ path_of ways place
+path-with ways stored None = refl
+path-with ways stored (Some entry) = refl
+
+-- what is stored of a file's entry changes
+pub stored_changed : (files directories : List (Option Entry)) (v : TreeValue) → value_of files directories ≡ v → AreSound files directories → (k size changes : ℕ) → IsSome (slot v.files k)
+    → Becomes (set files k (option_map (entry_with (size, changes)) (slot files k))) directories (with_stored v k size changes)
+unfolding value_of
+stored_changed files directories v is sound k size changes used =
+    let new : Option Entry = option_map (entry_with (size, changes)) (slot files k) in
+    let F = paths directories files in
+    let listed : paths directories (set files k new) ≡ F
+    = map-set (path_of (way directories 5)) files k new ∙ ap (set F k) (path-with (way directories 5) (size, changes) (slot files k) ∙ sym (slot-paths directories files k)) ∙ set-own F k in
+    let s = some_is (slot v.files k) used in
+    let here : IsSome (slot files k) = used-at files directories v is k s.0 s.1 in
+    let e = some_is (slot files k) here in
+    record {
+      sound = record {
+        few_files = subst (λ n. n ≤ 255) (sym (length-set files k new)) sound.few_files;
+        few_directories = sound.few_directories;
+        file_parents = parents-set directories files k new sound.file_parents (λ x h. let same : entry_with (size, changes) e.0 ≡ x = (let both : Some (entry_with (size, changes) e.0) ≡ Some x = sym (ap (option_map (entry_with (size, changes))) e.1) ∙ h in cc) in
+            subst (λ (y : Entry). IsSome (way directories 5 y.parent.0)) same (sound.file_parents k e.0 e.1));
+        directory_parents = sound.directory_parents;
+        distinct = subst (λ (xs : List (Option (List Name))). AreDistinct xs (paths directories directories)) (sym listed) sound.distinct;
+      };
+      is = (λ i. record {
+        nodes = nodes_of (listed i) (paths directories directories);
+        files = listed i;
+        directories = paths directories directories;
+        stored = (map-set (option_map (λ (x : Entry). x.stored)) files k new ∙ ap (set (stored_in files) k) (ap (λ (o : Option Entry). option_map (λ (x : Entry). x.stored) (option_map (entry_with (size, changes)) o)) e.1)) i;
+      }) ∙ ap (λ (v : TreeValue). with_stored v k size changes) is;
     }
 
 -- ---- a tree without entries
@@ -295,6 +394,10 @@ put-unused : (node : ℕ → Node ℕ) (k n : ℕ) (tree : Tree ℕ) → put_all
 put-unused node k zero tree = refl
 put-unused node k (suc n) tree = put-unused node (k + 1) n tree
 
+stored-unused : (n : ℕ) → stored_in (replicate n None) ≡ replicate n None
+stored-unused zero = refl
+stored-unused (suc n) = ap (λ rest. None ∷ rest) (stored-unused n)
+
 pub nothing_stands : (n m : ℕ) → n ≤ 255 → m ≤ 255 → Becomes (replicate n None) (replicate m None) (no_entries n m)
 unfolding value_of
 nothing_stands n m few_files few_directories =
@@ -309,7 +412,7 @@ nothing_stands n m few_files few_directories =
         directory_parents = λ i entry h. absurd (not_some (sym (slot-unused m i) ∙ h));
         distinct = λ a b path h k. absurd (none_at a path h);
       };
-      is = λ i. record { nodes = ((λ j. nodes_of (fs j) (ds j)) ∙ put-unused file 0 n (put_all (λ _. directory) 0 (replicate m None) []) ∙ put-unused (λ _. directory) 0 m []) i; files = fs i; directories = ds i };
+      is = λ i. record { nodes = ((λ j. nodes_of (fs j) (ds j)) ∙ put-unused file 0 n (put_all (λ _. directory) 0 (replicate m None) []) ∙ put-unused (λ _. directory) 0 m []) i; files = fs i; directories = ds i; stored = stored-unused n i };
     }
   where
     none_at : (a : Place) (path : List Name) → path_at (paths (replicate m None) (replicate n None)) (paths (replicate m None) (replicate m None)) a ≢ Some path

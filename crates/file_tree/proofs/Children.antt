@@ -15,7 +15,7 @@ use Rattle.file_tree.specs.Entries.{TreeValue, slot, way_of, path_in, Place, in_
 use Rattle.file_tree.specs.Table.{path_of, way, paths, value_of, HaveParents, AreSound, is_child}
 use Rattle.file_tree.proofs.Paths.{Stands, found_stands, at_found, directory_number}
 use Rattle.file_tree.proofs.Ways.{Named, path-made, path-some, way-root, way-directory, way-few, way-higher, slot-paths, way_of-value}
-use Rattle.file_tree.proofs.Changes.{some_is, standing-below}
+use Rattle.file_tree.proofs.Changes.{some_is, standing-below, stored-path}
 
 -- ---- the place of a name
 
@@ -47,7 +47,7 @@ pub same-bytes : (xs : List ℕ) → bytes_eq xs xs ≡ true
 same-bytes [] = refl
 same-bytes (x ∷ xs) = ap (λ b. b && bytes_eq xs xs) (eq-eqb x x refl) ∙ same-bytes xs
 
-child-is : (parent : ℕ) (name : Name) (entry : Entry) → entry.parent.0 ≡ parent → entry.name ≡ name → is_child parent name (Some entry) ≡ true
+pub child-is : (parent : ℕ) (name : Name) (entry : Entry) → entry.parent.0 ≡ parent → entry.name ≡ name → is_child parent name (Some entry) ≡ true
 child-is parent name entry p n = ap (λ b. b && bytes_eq entry.name name) (eq-eqb _ _ p) ∙ ap (bytes_eq entry.name) (sym n) ∙ same-bytes entry.name
 
 seen : {A : Type 0} (test : Option A → Bool) (n k : ℕ) (xs : List (Option A)) → position_from test n xs ≡ Some k → (i : ℕ) × (k ≡ n + i) × (test (slot xs i) ≡ true)
@@ -70,18 +70,18 @@ unseen test n (x ∷ xs) none h i =
     at zero t rest = t
     at (suc j) t rest = rest j
 
-place-child : (entries : List (Option Entry)) (parent : ℕ) (name : Name) (k : ℕ) → position (is_child parent name) entries ≡ Some k → ChildOf parent name (slot entries k)
+pub place-child : (entries : List (Option Entry)) (parent : ℕ) (name : Name) (k : ℕ) → position (is_child parent name) entries ≡ Some k → ChildOf parent name (slot entries k)
 place-child entries parent name k h =
     let r = seen (is_child parent name) 0 k entries (sym (position_from-zero (is_child parent name) entries) ∙ h) in
     let same : r.0 ≡ k = omega (arith, r.1) in
     child-true parent name (slot entries k) (ap (λ i. is_child parent name (slot entries i)) (sym same) ∙ r.2)
 
-place-none : (entries : List (Option Entry)) (parent : ℕ) (name : Name) → position (is_child parent name) entries ≡ None → (i : ℕ) → is_child parent name (slot entries i) ≡ false
+pub place-none : (entries : List (Option Entry)) (parent : ℕ) (name : Name) → position (is_child parent name) entries ≡ None → (i : ℕ) → is_child parent name (slot entries i) ≡ false
 place-none entries parent name h = unseen (is_child parent name) 0 entries refl (sym (position_from-zero (is_child parent name) entries) ∙ h)
 
 -- ---- the directory that a path leads to
 
-no-end : {A : Type 0} (xs : List A) (x : A) → [] ≢ xs ++ x ∷ []
+pub no-end : {A : Type 0} (xs : List A) (x : A) → [] ≢ xs ++ x ∷ []
 no-end xs x h = absurd (let e : 0 ≡ length xs + 1 = ap length h ∙ length-append xs (x ∷ []) in omega arith)
 
 pub same-end : {A : Type 0} (xs ys : List A) (x y : A) → xs ++ x ∷ [] ≡ ys ++ y ∷ [] → (xs ≡ ys) × (x ≡ y)
@@ -317,6 +317,7 @@ consistent files directories sound = record {
       ap (λ (p : List Name). standing_at (nodes_of (paths directories files) (paths directories directories)) (parent_of p)) n.path_is
       ∙ ap (standing_at (nodes_of (paths directories files) (paths directories directories))) (parent-end n.before n.entry.name)
       ∙ way-standing files directories sound n.entry.parent.0 n.before (way-higher directories 5 6 n.entry.parent.0 n.before n.way_is room);
+  stored = stored-path directories files;
 }
 
 -- where a walk ends with nothing, the name at the path's end gives the whole path

@@ -10,13 +10,13 @@ use Rattle.apex_model.specs.Durable.{StoredFile}
 use Rattle.apex_model.specs.Image as image
 use Rattle.apex_model.specs.Trees.{Name, Node, file, Tree, path_cmp, standing_at, entries_within}
 use Rattle.file_tree.specs.declared.entries.Entry.{Entry}
-use Rattle.file_tree.specs.Entries.{TreeValue, slot, path_in, without_directory, without_file, with_directory, with_file, with_file_at, AreDistinct, Place, in_file, in_directory, path_at, nodes_of}
+use Rattle.file_tree.specs.Entries.{TreeValue, slot, path_in, stored_of, without_directory, without_file, with_directory, with_file, with_file_at, AreDistinct, Place, in_file, in_directory, path_at, nodes_of}
 use Rattle.file_tree.specs.Images.{named_entry, named, names_of}
 use Rattle.file_tree.specs.Table.{path_of, way, paths, value_of, HaveParents, AreSound}
 use Rattle.file_tree.specs.Records.{is_unused, has_none, takes, new_file, new_directory, gone_file, gone_directory_at, gone_directory, moved_file_at, moved_file, applied}
 use Rattle.file_tree.proofs.Paths.{changed_file, Stands, found_stands, at_found, sorted_nodes}
 use Rattle.file_tree.proofs.Ways.{not_some, path-made, path-some, slot-paths, way-root, way-none, way-few, way-higher, way-directory, way-grown}
-use Rattle.file_tree.proofs.Changes.{some_is, standing-below, is_some as some_from, has_room, slot-within, Becomes, removed_file, renamed_file}
+use Rattle.file_tree.proofs.Changes.{some_is, standing-below, is_some as some_from, has_room, slot-within, Becomes, removed_file, renamed_file, stored-here}
 use Rattle.file_tree.proofs.Applied.{directories-used, directories-unused, no-new_directory, one-new_directory, put_directory, no-gone_directory, files-used, files-unused, unused-is, no-gone_file, no-new_file, one-new_file, no-moved_file, not-moved_file, takes-free, taking, way-room, put_file}
 use Rattle.file_tree.proofs.Children.{ChildOf, path-child, child-path, inside, and-first, and-second, same-bytes}
 use Rattle.file_tree.proofs.Listing.{next-none, nothing-within}
@@ -27,7 +27,7 @@ use Rattle.file_tree.proofs.ImageEntries.{slot-named, flat-slot, AreGood, tree-g
 abbrev pub if_tree : Option image.Entries → Option image.Entries
 if_tree changed = elim changed [ None ↦ None | Some after ↦ elim (image.tree_of_entries after) [ None ↦ None | Some tree ↦ Some after ] ]
 
-sound-good : (files directories : List (Option image.Entry)) → AreSound (named files) (named directories) → AreGood files directories
+pub sound-good : (files directories : List (Option image.Entry)) → AreSound (named files) (named directories) → AreGood files directories
 sound-good files directories s = record { file_parents = s.file_parents; directory_parents = s.directory_parents; distinct = s.distinct }
 
 -- changed entries that stand for these names
@@ -131,7 +131,7 @@ module _ (entries : image.Entries) (sound : AreSound (named entries.files) (name
             let after : image.Entries = record { files = slice_set entries.files k (Some (record { name = name; parent = parent; stored = record { content = []; changes = 0 } })); directories = entries.directories } in
             (elim (takes v parent name) as (λ b. takes v parent name ≡ b → option_map names_of (if_tree (Some after)) ≡ new_file v k parent (Some name)) [
               | true ↦ λ taken.
-                  becomes-seen after (set (named entries.files) k (Some (record { parent = record { 0 = parent }; name = name }))) (named entries.directories) (with_file v k (path_in v parent name))
+                  becomes-seen after (set (named entries.files) k (Some (record { parent = record { 0 = parent }; name = name; stored = (0, 0) }))) (named entries.directories) (with_file v k (path_in v parent name))
                   (map-set (option_map named_entry) entries.files k (Some (record { name = name; parent = parent; stored = record { content = []; changes = 0 } }))) refl
                   (put_file (named entries.files) (named entries.directories) v refl sound (record { 0 = parent }) name taken k (sym (files-unused (named entries.files) (named entries.directories) v refl sound k) ∙ free))
                   ∙ sym (one-new_file v k parent (Some name) name refl free taken)
@@ -240,8 +240,10 @@ module _ (entries : image.Entries) (sound : AreSound (named entries.files) (name
             (elim own as (λ b. own ≡ b → outcome b ≡ moved_file v k parent (Some name)) [
               | true ↦ λ o. absurd (own-not-taken taken o)
               | false ↦ λ o.
-                  becomes-seen after (set (named entries.files) k (Some (record { parent = record { 0 = parent }; name = name }))) (named entries.directories) (with_file_at v k s.0 (path_in v parent name))
-                  (map-set (option_map named_entry) entries.files k (Some (record { name = name; parent = parent; stored = old.stored }))) refl
+                  becomes-seen after (set (named entries.files) k (Some (record { parent = record { 0 = parent }; name = name; stored = stored_of v k }))) (named entries.directories) (with_file_at v k s.0 (path_in v parent name))
+                  (map-set (option_map named_entry) entries.files k (Some (record { name = name; parent = parent; stored = old.stored }))
+                  ∙ ap (λ (st : ℕ × ℕ). set (named entries.files) k (Some (record { parent = record { 0 = parent }; name = name; stored = st })))
+                  (sym (stored-here (named entries.files) (named entries.directories) v refl k (named_entry old) old-named))) refl
                   (renamed_file (named entries.files) (named entries.directories) v refl sound k s.0 s.1 (record { 0 = parent }) name t.used t.few t.free)
                   ∙ sym (ap (moved_file_at v k parent name) s.1 ∙ first (takes v parent name) (Some (with_file_at v k s.0 (path_in v parent name))) None taken)
             ]) refl
@@ -502,7 +504,7 @@ module _ (entries : image.Entries) (sound : AreSound (named entries.files) (name
             let after : image.Entries = record { files = entries.files; directories = slice_set entries.directories k (Some (record { name = name; parent = parent; stored = record { content = []; changes = 0 } })) } in
             (elim (takes v parent name) as (λ b. takes v parent name ≡ b → option_map names_of (if_tree (Some after)) ≡ new_directory v k parent (Some name)) [
               | true ↦ λ taken.
-                  becomes-seen after (named entries.files) (set (named entries.directories) k (Some (record { parent = record { 0 = parent }; name = name }))) (with_directory v k (path_in v parent name)) refl
+                  becomes-seen after (named entries.files) (set (named entries.directories) k (Some (record { parent = record { 0 = parent }; name = name; stored = (0, 0) }))) (with_directory v k (path_in v parent name)) refl
                   (map-set (option_map named_entry) entries.directories k (Some (record { name = name; parent = parent; stored = record { content = []; changes = 0 } })))
                   (put_directory (named entries.files) (named entries.directories) v refl sound (record { 0 = parent }) name taken k
                   (sym (directories-unused (named entries.files) (named entries.directories) v refl sound k) ∙ free))

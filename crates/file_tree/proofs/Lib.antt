@@ -1,5 +1,8 @@
 pub mod Applied
+pub mod ReadBodies
+pub mod BodyImages
 pub mod Changes
+pub mod Tested
 pub mod Children
 pub mod Counts
 pub mod ImageEntries
@@ -8,4 +11,6 @@ pub mod ImageSound
 pub mod LeastNames
 pub mod Listing
 pub mod Paths
+pub mod PutBodies
 pub mod Ways
+pub mod Written

@@ -6,11 +6,12 @@ use Rattle.apex_types.specs.declared.fields.Spot.TheVariants.{Free, File, Direct
 use Rattle.apex_model.specs.Trees.{Name, Node, directory, file, Tree, path_cmp, standing_at, with_node, without_node, next_entry}
 use Rattle.apex_model.specs.Validity.{parent_of}
 
--- what stands at each path, with the numbers of the files; the path of each file's entry, and of each directory's entry; an unused entry has none
+-- what stands at each path, with the numbers of the files; the path of each file's entry, and of each directory's entry; what the durable body has of each file's entry: its size and its change count; an unused entry has none
 pub record TreeValue : Type 0 where
   pub nodes : Tree ℕ
   pub files : List (Option (List Name))
   pub directories : List (Option (List Name))
+  pub stored : List (Option (ℕ × ℕ))
 
 -- what a place of a list has, which is nothing past its end
 abbrev pub slot : {A : Type 0} → List (Option A) → ℕ → Option A
@@ -27,27 +28,35 @@ path_in v parent name = unwrap_or (way_of v parent) [] ++ name ∷ []
 
 -- only the root, where so many entries are unused
 abbrev pub no_entries : ℕ → ℕ → TreeValue
-no_entries files directories = record { nodes = []; files = replicate files None; directories = replicate directories None }
+no_entries files directories = record { nodes = []; files = replicate files None; directories = replicate directories None; stored = replicate files None }
 
--- with a file at an unused entry
+-- the size and the change count that the durable body has of a file's entry
+abbrev pub stored_of : TreeValue → ℕ → ℕ × ℕ
+stored_of v f = unwrap_or (slot v.stored f) (0, 0)
+
+-- with a file at an unused entry, of which nothing is stored
 abbrev pub with_file : TreeValue → ℕ → List Name → TreeValue
-with_file v f path = record { nodes = with_node v.nodes path (file f); files = slice_set v.files f (Some path); directories = v.directories }
+with_file v f path = record { nodes = with_node v.nodes path (file f); files = slice_set v.files f (Some path); directories = v.directories; stored = slice_set v.stored f (Some (0, 0)) }
 
 -- with a directory at an unused entry
 abbrev pub with_directory : TreeValue → ℕ → List Name → TreeValue
-with_directory v d path = record { nodes = with_node v.nodes path directory; files = v.files; directories = slice_set v.directories d (Some path) }
+with_directory v d path = record { nodes = with_node v.nodes path directory; files = v.files; directories = slice_set v.directories d (Some path); stored = v.stored }
 
 -- without the file of an entry, which stood at this path
 abbrev pub without_file : TreeValue → ℕ → List Name → TreeValue
-without_file v f path = record { nodes = without_node v.nodes path; files = slice_set v.files f None; directories = v.directories }
+without_file v f path = record { nodes = without_node v.nodes path; files = slice_set v.files f None; directories = v.directories; stored = slice_set v.stored f None }
 
 -- without the directory of an entry, which stood at this path
 abbrev pub without_directory : TreeValue → ℕ → List Name → TreeValue
-without_directory v d path = record { nodes = without_node v.nodes path; files = v.files; directories = slice_set v.directories d None }
+without_directory v d path = record { nodes = without_node v.nodes path; files = v.files; directories = slice_set v.directories d None; stored = v.stored }
 
 -- with the file of an entry at another path
 abbrev pub with_file_at : TreeValue → ℕ → List Name → List Name → TreeValue
-with_file_at v f from to = record { nodes = with_node (without_node v.nodes from) to (file f); files = slice_set v.files f (Some to); directories = v.directories }
+with_file_at v f from to = record { nodes = with_node (without_node v.nodes from) to (file f); files = slice_set v.files f (Some to); directories = v.directories; stored = v.stored }
+
+-- with this size and change count of a file's entry
+abbrev pub with_stored : TreeValue → ℕ → ℕ → ℕ → TreeValue
+with_stored v f size changes = record { nodes = v.nodes; files = v.files; directories = v.directories; stored = slice_set v.stored f (Some (size, changes)) }
 
 -- an entry: of a file or of a directory
 pub data Place : Type 0 where
@@ -97,10 +106,11 @@ IsNextSpot v way after (Some (Directory parent node name)) =
 IsNextSpot v way after (Some (Free parent)) = ⊥
 IsNextSpot v way after (Some Root) = ⊥
 
--- what holds of every tree: the map is that of the entries' paths, no two of which are the same; each has 1 to 6 names, and its parent is a directory or the root
+-- what holds of every tree: the map is that of the entries' paths, no two of which are the same; each has 1 to 6 names, and its parent is a directory or the root; each file's entry has a size and a change count
 pub record IsConsistent (v : TreeValue) : Type 0 where
   pub nodes_are : v.nodes ≡ nodes_of v.files v.directories
   pub distinct : AreDistinct v.files v.directories
   pub some : (a : Place) (path : List Name) → path_at v.files v.directories a ≡ Some path → 1 ≤ length path
   pub few : (a : Place) (path : List Name) → path_at v.files v.directories a ≡ Some path → length path ≤ 6
   pub parent : (a : Place) (path : List Name) → path_at v.files v.directories a ≡ Some path → standing_at v.nodes (parent_of path) ≡ Some directory
+  pub stored : (f : ℕ) (path : List Name) → slot v.files f ≡ Some path → slot v.stored f ≡ Some (stored_of v f)

@@ -1,6 +1,9 @@
+pub mod Bodies
+pub mod Checks
 pub mod Children
 pub mod Entries
 pub mod Images
+pub mod Laws
 pub mod Least
 pub mod Records
 pub mod Table

@@ -1,4 +1,4 @@
--- Entries with a parent and a name, and the paths that they stand for.
+-- Entries with a parent, a name and what is stored of them, and the paths that they stand for.
 use Rattle.std.specs.Prelude.{◌≡◌, ℕ, zero, suc, Bool, false, ◌≤◌, ◌&&◌, ◌==◌, List, [], ◌∷◌, ◌++◌, length, map, Option, Some, None, option_map, IsSome, bytes_eq}
 use Rattle.apex_model.specs.Trees.{Name}
 use Rattle.apex_types.specs.declared.numbers.DirNode.{DirNode}
@@ -24,11 +24,25 @@ way directories (suc depth) d = way_by (way directories depth) directories d
 abbrev pub paths : List (Option Entry) → List (Option Entry) → List (Option (List Name))
 paths directories entries = map (path_of (way directories 5)) entries
 
+-- what is stored of an entry; of an unused one nothing is
+abbrev pub stored_at : Option Entry → ℕ × ℕ
+stored_at None = (0, 0)
+stored_at (Some entry) = entry.stored
+
+-- the same entry, of which this is stored
+abbrev pub entry_with : ℕ × ℕ → Entry → Entry
+entry_with stored entry = record { parent = entry.parent; name = entry.name; stored = stored }
+
+-- what the durable body has of each entry
+abbrev pub stored_in : List (Option Entry) → List (Option (ℕ × ℕ))
+stored_in entries = map (option_map (λ (entry : Entry). entry.stored)) entries
+
 unfoldable pub value_of : List (Option Entry) → List (Option Entry) → TreeValue
 value_of files directories = record {
   nodes = nodes_of (paths directories files) (paths directories directories);
   files = paths directories files;
   directories = paths directories directories;
+  stored = stored_in files;
 }
 
 -- the parent of each entry is a directory in use with at most 5 names on its way

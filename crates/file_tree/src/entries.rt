@@ -1,15 +1,19 @@
-ghost use Rattle.std.specs.Prelude.{◌≡◌, ◌<◌, ◌≤◌, length, replicate, None, IfOk, IfSome, position, count_by, is_some};
+ghost use Rattle.std.specs.Prelude.{◌≡◌, ◌<◌, ◌≤◌, length, replicate, None, IfOk, IfSome, position, count_by, is_some, option_map, slice_set};
+ghost use Rattle.file_tree.specs.Table.{stored_at as stored_at_place, entry_with};
+ghost use Rattle.file_tree.specs.Entries.{slot};
 ghost use Rattle.apex_model.specs.Handles.{free_from};
 ghost use Rattle.file_tree.specs.Table.{is_child};
 
+use crate::stored::Stored;
 use apex_types::{DirNode, Name, OutOfMemory};
 use std::alloc::Global;
 
-/// An entry in use: a name in a directory.
+/// An entry in use: a name in a directory, and of a file what the durable body has of it.
 #[derive(Drop)]
 pub struct Entry {
     pub parent: DirNode,
     pub name: Name,
+    pub stored: Stored,
 }
 
 /// So many unused entries.
@@ -61,10 +65,41 @@ pub fn child_place(entries: &[Option<Entry>], parent: DirNode, name: &Name) -> O
         .position(|place| has_child(place, parent, name))
 }
 
+/// What is stored of the entry at this place; of an unused one nothing is.
+pub fn stored_at(entries: &[Option<Entry>], k: usize) -> Stored
+    requires { k < length entries.now }
+    ensures { result ≡ stored_at_place (slot entries.now k) }
+{
+    match &entries[k] {
+        None => Stored::nothing(),
+        Some(entry) => entry.stored.copy(),
+    }
+}
+
+/// Changes what is stored of the entry at this place, if it is used.
+pub fn set_stored_at(entries: &mut [Option<Entry>], k: usize, stored: Stored)
+    requires { k < length entries.old }
+    ensures { entries.new ≡ slice_set entries.old k (option_map (entry_with stored) (slot entries.old k)) }
+{
+    match &mut entries[k] {
+        None => {}
+        Some(entry) => entry.stored = stored,
+    }
+}
+
 /// How many entries are in use.
 pub fn used_entries(entries: &[Option<Entry>]) -> usize
     ensures value { result ≡ count_by is_some entries.now }
     ensures within { result ≤ length entries.now }
 {
     entries.iter().filter(|place| place.is_some()).count()
+}
+
+/// Makes each entry unused.
+pub fn clear(entries: &mut [Option<Entry>])
+    ensures { entries.new ≡ replicate (length entries.old) None }
+{
+    for k in 0..entries.len() {
+        entries[k] = None;
+    }
 }

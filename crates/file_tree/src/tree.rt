@@ -1,19 +1,27 @@
-ghost use Rattle.std.specs.Prelude.{◌≡◌, ◌-◌, ◌<◌, ◌≤◌, ◌≢◌, [], length, unwrap_or, None, Some, IsSome, IfOk, IfErr, IfSome, MatchResult};
+ghost use Rattle.std.specs.Prelude.{◌≡◌, ◌+◌, ◌-◌, ◌*◌, ◌<◌, ◌≤◌, ◌≢◌, ℕ, [], length, take, drop, slice_index, slice_set, unwrap_or, None, Some, IsSome, IfOk, IfErr, IfSome, MatchResult};
 ghost use Rattle.apex_model.specs.Handles.{free_from};
 ghost use Rattle.apex_model.specs.Trees.{standing_at, walk, entries_within, file_count};
-ghost use Rattle.file_tree.specs.Entries.{slot, way_of, path_in, no_entries, with_file, with_directory, without_file, without_directory, with_file_at, IsSpotAt, IsNextSpot, IsConsistent};
+ghost use Rattle.file_tree.specs.Entries.{slot, way_of, path_in, no_entries, stored_of, with_stored, with_file, with_directory, without_file, without_directory, with_file_at, IsSpotAt, IsNextSpot, IsConsistent};
+ghost use Rattle.apex_model.specs.Fields.{header_of};
+ghost use Rattle.file_tree.specs.Bodies.{tree_in_body, IsReadTree};
 ghost use Rattle.file_tree.specs.Children.{IsChildAt};
 ghost use Rattle.file_tree.specs.Records.{takes as takes_name, new_file, new_directory, gone_file, gone_directory, moved_file, applied, IsMade};
 
+use crate::bodies::{put_entries, put_header, read_tables};
 use crate::child::Child;
-use crate::entries::{Entry, child_place, free_place, unused_entries, used_entries};
+use crate::entries::{
+    Entry, child_place, clear, free_place, set_stored_at, stored_at, unused_entries, used_entries,
+};
+use crate::kind::Kind;
 use crate::least::{directory_spot, file_spot, is_second_first, least_place};
 use crate::places::{has_way, is_unused, is_used};
+use crate::stored::Stored;
 use apex_types::{DirNode, Errno, FileNode, Name, OutOfMemory, Path, RecordField, Spot};
 use std::alloc::Global;
 use std::marker::Model;
 
-/// The names of one tree: directories and files below its root, at most 6 names deep.
+/// The names of one tree: directories and files below its root, at most 6 names deep, with the sizes and change
+/// counts of files as the durable body has them.
 #[derive(Drop)]
 pub struct Tree {
     files: Vec<Option<Entry>>,
@@ -125,7 +133,11 @@ impl Tree {
         let Some(k) = free_place(&self.files) else {
             return Err(Errno::Enospc);
         };
-        self.files[k] = Some(Entry { parent, name });
+        self.files[k] = Some(Entry {
+            parent,
+            name,
+            stored: Stored::nothing(),
+        });
         Ok(FileNode(k as u8))
     }
 
@@ -141,7 +153,11 @@ impl Tree {
         let Some(k) = free_place(&self.directories) else {
             return Err(Errno::Enospc);
         };
-        self.directories[k] = Some(Entry { parent, name });
+        self.directories[k] = Some(Entry {
+            parent,
+            name,
+            stored: Stored::nothing(),
+        });
         Ok(DirNode(k as u8 + 1))
     }
 
@@ -161,7 +177,63 @@ impl Tree {
         requires free { standing_at self.old.nodes (path_in self.old parent.0 name) ≡ None }
         ensures { IfSome (slot self.old.files file.0) (λ path. self.new ≡ with_file_at self.old file.0 path (path_in self.old parent.0 name)) }
     {
-        self.files[file.0 as usize] = Some(Entry { parent, name });
+        let stored = stored_at(&self.files, file.0 as usize);
+        self.files[file.0 as usize] = Some(Entry {
+            parent,
+            name,
+            stored,
+        });
+    }
+
+    /// The size in bytes and the change count that the durable body has of a file.
+    pub fn stored(&self, file: FileNode) -> (u32, u32)
+        requires { IsSome (slot self.now.files file.0) }
+        ensures value { result ≡ stored_of self.now file.0 }
+        ensures fits { (stored_of self.now file.0).0 ≤ 1048576 }
+    {
+        stored_at(&self.files, file.0 as usize).both()
+    }
+
+    /// Notes the size in bytes and the change count that the durable body has of a file from now on.
+    pub fn set_stored(&mut self, file: FileNode, size: u32, changes: u32)
+        requires file { IsSome (slot self.old.files file.0) }
+        requires fits { size ≤ 1048576 }
+        ensures { self.new ≡ with_stored self.old file.0 size changes }
+    {
+        set_stored_at(&mut self.files, file.0 as usize, Stored::new(size, changes));
+    }
+
+    /// Writes the header and the entries of a slot's body, in version 2: all but the sequence number in the first
+    /// byte, which stays as it is. With a sequence number there the body is one of this tree, with the sizes and
+    /// change counts that are stored.
+    pub fn put_body(&self, body: &mut [u8])
+        requires { 64 + 128 * (length self.now.files + length self.now.directories) ≤ length body.old }
+        ensures sequence { slice_index body.new 0 ≡ slice_index body.old 0 }
+        ensures header { (sequence : ℕ) → sequence ≤ 2 → header_of (take 64 (slice_set body.new 0 sequence)) ≡ Some (sequence, 2) }
+        ensures tree { (sequence : ℕ) → sequence ≤ 2 → tree_in_body (length self.now.files) (length self.now.directories) (slice_set body.new 0 sequence) ≡ Some self.now }
+        ensures behind { drop (64 + 128 * (length self.now.files + length self.now.directories)) body.new ≡ drop (64 + 128 * (length self.now.files + length self.now.directories)) body.old }
+    {
+        put_header(body);
+        put_entries(Kind::File, body, &self.files, 0);
+        put_entries(Kind::Directory, body, &self.directories, self.files.len());
+    }
+
+    /// Reads the tree from the header and the entries of a slot's body, of version 1 or 2. False comes exactly
+    /// where the header, an entry, a parent, a depth, a name or a size is invalid; only the root is left then.
+    /// Neither the block numbers of files nor what is behind them is read.
+    pub fn read_body(&mut self, body: &[u8]) -> bool
+        requires { 64 + 128 * (length self.old.files + length self.old.directories) ≤ length body.now }
+        ensures tree { IsReadTree (tree_in_body (length self.old.files) (length self.old.directories) body.now) self.old self.new result }
+        // There are as many entries as before.
+        ensures files { length self.new.files ≡ length self.old.files }
+        ensures directories { length self.new.directories ≡ length self.old.directories }
+    {
+        if read_tables(&mut self.files, &mut self.directories, body) {
+            return true;
+        }
+        clear(&mut self.files);
+        clear(&mut self.directories);
+        false
     }
 
     /// The entry of a directory with the least name in byte order behind the last name given, or with the
@@ -233,6 +305,7 @@ impl Tree {
         self.files[index as usize] = Some(Entry {
             parent,
             name: name.copy(),
+            stored: Stored::nothing(),
         });
         true
     }
@@ -253,6 +326,7 @@ impl Tree {
         self.directories[index as usize] = Some(Entry {
             parent,
             name: name.copy(),
+            stored: Stored::nothing(),
         });
         true
     }

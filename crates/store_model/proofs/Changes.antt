@@ -261,10 +261,10 @@ free-within v f least =
     (omega (arith, l.1, l.2), ap (slot v.tree.files) same ∙ l.3)
 
 -- a store in which a file of an entry got a path
-placed-sound : (v : StoreValue) (f : ℕ) (path : List Name) (nodes : Tree ℕ) → IsSound v → f < length v.tree.files
-    → IsConsistent (record { nodes = nodes; files = slice_set v.tree.files f (Some path); directories = v.tree.directories })
-    → IsSound (with_names v (record { nodes = nodes; files = slice_set v.tree.files f (Some path); directories = v.tree.directories }))
-placed-sound v f path nodes s within names = record {
+placed-sound : (v : StoreValue) (f : ℕ) (path : List Name) (nodes : Tree ℕ) (stored : List (Option (ℕ × ℕ))) → IsSound v → f < length v.tree.files
+    → IsConsistent (record { nodes = nodes; files = slice_set v.tree.files f (Some path); directories = v.tree.directories; stored = stored })
+    → IsSound (with_names v (record { nodes = nodes; files = slice_set v.tree.files f (Some path); directories = v.tree.directories; stored = stored }))
+placed-sound v f path nodes stored s within names = record {
   names = names;
   files = s.files ∙ sym (length-set v.tree.files f (Some path));
   charges = s.charges ∙ sym (length-set v.tree.files f (Some path));
@@ -273,7 +273,7 @@ placed-sound v f path nodes s within names = record {
 }
 
 pub made-sound : (v : StoreValue) (f : ℕ) (names : List Name) → IsSound v → free_from 0 v.tree.files ≡ Some f → IsConsistent (with_file v.tree f names) → IsSound (with_names v (with_file v.tree f names))
-made-sound v f names s least c = placed-sound v f names (with_node v.tree.nodes names (file f)) s (free-within v f least).0 c
+made-sound v f names s least c = placed-sound v f names (with_node v.tree.nodes names (file f)) (slice_set v.tree.stored f (Some (0, 0))) s (free-within v f least).0 c
 
 new-kept : (v : StoreValue) (f : ℕ) → (kept_at v f ≡ nothing_kept) × (charge_at v f ≡ 0) → IsFile (kept_at v f) (charge_at v f) new_file
 new-kept v f u = record { content = ap (λ (k : KeptFile). k.content) u.0; changes = ap (λ (k : KeptFile). k.changes) u.0; charge = u.1 }
@@ -334,7 +334,7 @@ removed-stands v tree f names t used c =
     }
 
 pub renamed-sound : (v : StoreValue) (f : ℕ) (from to : List Name) → IsSound v → slot v.tree.files f ≡ Some from → IsConsistent (with_file_at v.tree f from to) → IsSound (with_names v (with_file_at v.tree f from to))
-renamed-sound v f from to s used c = placed-sound v f to (with_node (without_node v.tree.nodes from) to (file f)) s (within-entries v s f from used) c
+renamed-sound v f from to s used c = placed-sound v f to (with_node (without_node v.tree.nodes from) to (file f)) v.tree.stored s (within-entries v s f from used) c
 
 -- a file gets another path
 pub renamed-stands : (v : StoreValue) (tree : Tree File) (f : ℕ) (from to : List Name) (g : File) → IsTree v tree → slot v.tree.files f ≡ Some from → standing_at v.tree.nodes to ≡ None → standing_at tree from ≡ Some (file g)

@@ -38,6 +38,7 @@ consistent_empty = record {
   some = λ a path e. absurd (no_path a path e);
   few = λ a path e. absurd (no_path a path e);
   parent = λ a path e. absurd (no_path a path e);
+  stored = λ f path e. absurd (no_path (in_file f) path e);
 }
 
 -- the names of each store are consistent

@@ -12,7 +12,7 @@ returns-in_default-clause-full c =
 pub invariant_of-self : goal.invariant_of-self
 invariant_of-self c =
     let least : free_from 0 c.self.inside.directories.items ≡ Some c.in-Some.k = ap (free_from 0) (sym c.deref.ensures.value) ∙ sym c.in-Some.ensures.least in
-    (made_directory c.self.inside.files.items c.self.inside.directories.items c.args.self.now c.self.view_is c.self.invariant c.args.parent c.args.name c.requires.in_use c.requires.few c.requires.free c.in-Some.k least).sound
+    rw (c.nothing.ensures) (made_directory c.self.inside.files.items c.self.inside.directories.items c.args.self.now c.self.view_is c.self.invariant c.args.parent c.args.name c.requires.in_use c.requires.few c.requires.free c.in-Some.k least).sound
 
 pub returns-clause-made : goal.returns-clause-made
 returns-clause-made c =
@@ -20,6 +20,7 @@ returns-clause-made c =
     let number : suc c.in-Some.k ≡ c.in-Some.k + 1 = omega arith in
     let place : c.in-Some.k ≡ (c.in-Some.k + 1) - 1 = omega arith in (
       directories-least _ _ _ c.self.view_is c.self.invariant ∙ ap (option_map suc) least ∙ ap Some number,
-      (made_directory c.self.inside.files.items c.self.inside.directories.items c.args.self.now c.self.view_is c.self.invariant c.args.parent c.args.name c.requires.in_use c.requires.few c.requires.free c.in-Some.k least).is
-          ∙ ap (λ d. with_directory c.args.self.now d (path_in c.args.self.now c.args.parent.0 c.args.name)) place,
+      rw (c.nothing.ensures)
+          ((made_directory c.self.inside.files.items c.self.inside.directories.items c.args.self.now c.self.view_is c.self.invariant c.args.parent c.args.name c.requires.in_use c.requires.few c.requires.free c.in-Some.k least).is
+          ∙ ap (λ d. with_directory c.args.self.now d (path_in c.args.self.now c.args.parent.0 c.args.name)) place),
     )

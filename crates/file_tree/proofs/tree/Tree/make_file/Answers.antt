@@ -9,11 +9,11 @@ returns-in_default-clause-full c = (refl, files-least _ _ _ c.self.view_is c.sel
 pub invariant_of-self : goal.invariant_of-self
 invariant_of-self c =
     let least : free_from 0 c.self.inside.files.items ≡ Some c.in-Some.k = ap (free_from 0) (sym c.deref.ensures.value) ∙ sym c.in-Some.ensures.least in
-    (made_file c.self.inside.files.items c.self.inside.directories.items c.args.self.now c.self.view_is c.self.invariant c.args.parent c.args.name c.requires.in_use c.requires.few c.requires.free c.in-Some.k least).sound
+    rw (c.nothing.ensures) (made_file c.self.inside.files.items c.self.inside.directories.items c.args.self.now c.self.view_is c.self.invariant c.args.parent c.args.name c.requires.in_use c.requires.few c.requires.free c.in-Some.k least).sound
 
 pub returns-clause-made : goal.returns-clause-made
 returns-clause-made c =
     let least : free_from 0 c.self.inside.files.items ≡ Some c.in-Some.k = ap (free_from 0) (sym c.deref.ensures.value) ∙ sym c.in-Some.ensures.least in (
       files-least _ _ _ c.self.view_is c.self.invariant ∙ least,
-      (made_file c.self.inside.files.items c.self.inside.directories.items c.args.self.now c.self.view_is c.self.invariant c.args.parent c.args.name c.requires.in_use c.requires.few c.requires.free c.in-Some.k least).is,
+      rw (c.nothing.ensures) (made_file c.self.inside.files.items c.self.inside.directories.items c.args.self.now c.self.view_is c.self.invariant c.args.parent c.args.name c.requires.in_use c.requires.few c.requires.free c.in-Some.k least).is,
     )

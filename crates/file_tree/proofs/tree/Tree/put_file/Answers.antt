@@ -20,12 +20,13 @@ pub invariant_of-self : goal.invariant_of-self
 invariant_of-self c =
     let free : is_unused c.self.inside.files.items c.args.index ≡ true = ap (λ (xs : List (Option Entry)). is_unused xs c.args.index) (sym c.deref.ensures.value) ∙ sym c.is_unused.ensures ∙ c.if-not-is_unused.false in
     let taken : takes c.args.self.now c.args.parent.0 c.copy.result ≡ true = ap (takes c.args.self.now c.args.parent.0) c.copy.ensures ∙ sym c.takes.ensures ∙ c.if-not-takes.false in
-    (put_file c.self.inside.files.items c.self.inside.directories.items c.args.self.now c.self.view_is c.self.invariant c.args.parent c.copy.result taken c.args.index free).sound
+    rw (c.nothing.ensures) (put_file c.self.inside.files.items c.self.inside.directories.items c.args.self.now c.self.view_is c.self.invariant c.args.parent c.copy.result taken c.args.index free).sound
 
 pub returns : goal.returns
 returns c =
     let free : is_unused c.self.inside.files.items c.args.index ≡ true = ap (λ (xs : List (Option Entry)). is_unused xs c.args.index) (sym c.deref.ensures.value) ∙ sym c.is_unused.ensures ∙ c.if-not-is_unused.false in
     let taken : takes c.args.self.now c.args.parent.0 c.copy.result ≡ true = ap (takes c.args.self.now c.args.parent.0) c.copy.ensures ∙ sym c.takes.ensures ∙ c.if-not-takes.false in
-    one-new_file c.args.self.now c.args.index c.args.parent.0 c.args.name.now c.copy.result (c.in-Some.is ∙ ap Some (sym c.copy.ensures))
+    rw (c.nothing.ensures)
+    (one-new_file c.args.self.now c.args.index c.args.parent.0 c.args.name.now c.copy.result (c.in-Some.is ∙ ap Some (sym c.copy.ensures))
     (files-unused c.self.inside.files.items c.self.inside.directories.items c.args.self.now c.self.view_is c.self.invariant c.args.index ∙ free) taken
-    ∙ ap Some (sym (put_file c.self.inside.files.items c.self.inside.directories.items c.args.self.now c.self.view_is c.self.invariant c.args.parent c.copy.result taken c.args.index free).is)
+    ∙ ap Some (sym (put_file c.self.inside.files.items c.self.inside.directories.items c.args.self.now c.self.view_is c.self.invariant c.args.parent c.copy.result taken c.args.index free).is))

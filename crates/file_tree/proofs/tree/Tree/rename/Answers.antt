@@ -1,6 +1,12 @@
-use Rattle.std.proofs.Common.{◌<◌, subst, sym}
-use Rattle.file_tree.proofs.Changes.{files-within, renamed_file, some_is, each_some}
+use Rattle.std.proofs.Common.{◌≡◌, ◌<◌, length, subst, sym, ap, ◌∙◌, List, Option}
+use Rattle.file_tree.specs.declared.entries.Entry.{Entry}
+use Rattle.file_tree.specs.Entries.{slot, stored_of}
+use Rattle.file_tree.specs.Table.{stored_at}
+use Rattle.file_tree.proofs.Changes.{files-within, renamed_with, some_is, each_some, stored-seen}
 use Rattle.file_tree.proofs.tree.Tree.rename.Goals as goal
+
+pub stored_at-stored-requires : goal.stored_at-stored-requires
+stored_at-stored-requires c = subst (λ (xs : List (Option Entry)). c.args.file.0 < length xs) (sym c.deref.ensures.value) (files-within _ _ _ c.self.view_is c.args.file.0 c.requires.file)
 
 pub index_mut-requires : goal.index_mut-requires
 index_mut-requires c = subst (λ n. c.args.file.0 < n) (sym c.self.inside.files.ok.0) (files-within _ _ _ c.self.view_is c.args.file.0 c.requires.file)
@@ -8,8 +14,10 @@ index_mut-requires c = subst (λ n. c.args.file.0 < n) (sym c.self.inside.files.
 pub invariant_of-self : goal.invariant_of-self
 invariant_of-self c =
     let s = some_is _ c.requires.file in
-    (renamed_file c.self.inside.files.items c.self.inside.directories.items c.args.self.now c.self.view_is c.self.invariant c.args.file.0 s.0 s.1 c.args.parent c.args.name c.requires.in_use c.requires.few c.requires.free).sound
+    let kept : stored_of c.args.self.now c.args.file.0 ≡ c.stored_at-stored.result = stored-seen _ _ _ c.self.view_is c.args.file.0 ∙ ap (λ (xs : List (Option Entry)). stored_at (slot xs c.args.file.0)) (sym c.deref.ensures.value) ∙ sym c.stored_at-stored.ensures in
+    (renamed_with c.self.inside.files.items c.self.inside.directories.items c.args.self.now c.self.view_is c.self.invariant c.args.file.0 s.0 s.1 c.args.parent c.args.name c.stored_at-stored.result kept c.requires.in_use c.requires.few c.requires.free).sound
 
 pub returns : goal.returns
 returns c = each_some _ _ (λ path was.
-    (renamed_file c.self.inside.files.items c.self.inside.directories.items c.args.self.now c.self.view_is c.self.invariant c.args.file.0 path was c.args.parent c.args.name c.requires.in_use c.requires.few c.requires.free).is)
+    let kept : stored_of c.args.self.now c.args.file.0 ≡ c.stored_at-stored.result = stored-seen _ _ _ c.self.view_is c.args.file.0 ∙ ap (λ (xs : List (Option Entry)). stored_at (slot xs c.args.file.0)) (sym c.deref.ensures.value) ∙ sym c.stored_at-stored.ensures in
+    (renamed_with c.self.inside.files.items c.self.inside.directories.items c.args.self.now c.self.view_is c.self.invariant c.args.file.0 path was c.args.parent c.args.name c.stored_at-stored.result kept c.requires.in_use c.requires.few c.requires.free).is)
