@@ -1,6 +1,6 @@
 #!/bin/sh
-# Builds apexhost and runs its main job on four examples: a module's table and a script of service calls.
-# It shows each script, what the program told and its exit status, in fresh temporary folders.
+# Builds apexhost and runs its main job on four examples: a module's table and a script of service calls. Then it formats
+# an image. It shows each script, what the program told and its exit status, in fresh temporary folders.
 # The checkout stays as it was, but for the folders out/ that the build makes.
 #
 # The kit's rt must be on the PATH. The first build proves every crate that the program stands on, which takes some
@@ -56,8 +56,29 @@ show_run() {
     fi
 }
 
+# Formats an image for an example's table, and compares what was told and the size of the file.
+# $1 the table, $2 the number of blocks that the image is to have
+show_format() {
+    mkdir "$room/format" && cp "$top/examples/$1" "$room/format/module.toml" || exit 1
+    (cd "$room/format" && "$program" format) </dev/null >"$room/told"
+    status=$?
+    echo
+    echo "== told by: apexhost format, over the table examples/$1"
+    cat "$room/told"
+    echo
+    echo "== exit status: $status"
+    bytes=$(wc -c <"$room/format/disk.img") || exit 1
+    echo "== the file disk.img: $((bytes)) bytes"
+    rm -rf "$room/format"
+    if [ "$status" -ne 0 ] || [ "$(cat "$room/told")" != "formatted $2 blocks" ] || [ "$((bytes))" -ne $(($2 * 512)) ]; then
+        echo "demo: formatted $2 blocks, the status 0 and a file of $(($2 * 512)) bytes were wanted" >&2
+        exit 1
+    fi
+}
+
 show_run small.toml one_file.script one_file.told
 show_run module.toml first_run.script first_run.told
 show_run module.toml file_services.script file_services.told
 show_run module.toml directories.script directories.told
 echo "These are the lines of the files examples/*.told, worked out apart from the program."
+show_format small.toml 197

@@ -10,12 +10,12 @@ use Rattle.table_model.specs.Table.{table_of}
 use Rattle.table_model.specs.declared.errors.TableError.{TableError}
 use Rattle.script_model.specs.Script.{Refusal, script_of}
 use Rattle.call_script.specs.Errors.{refusal_of}
-use Rattle.apex_host.specs.Statuses.{HasCauseSoFar}
+use Rattle.apex_host.specs.Commands.{EndsRun, EndsFormat}
 use Rattle.call_script.specs.declared.errors.ScriptError.{ScriptError}
-use Rattle.apex_host.specs.Stops.{StopsFor, RefusesScript, ToldBefore, IsQuiet, status_of_stop, line_of_stop}
+use Rattle.apex_host.specs.Stops.{StopsFor, RefusesScript, ToldBefore, IsQuiet, IsRunStop, IsFormatStop, status_of_stop, line_of_stop}
 use Rattle.apex_host.specs.Told.{TellsTableRefused, TellsScriptRefused, TellsSourceFault, TellsSome, TellsPart, AcceptsTable, AcceptsBoth, table_refused, script_refused, table_fault, script_fault, replies, table_fault_line, script_fault_line}
 use Rattle.apex_host.specs.declared.status.Status.{Status}
-use Rattle.apex_host.specs.declared.status.Status.TheVariants.{Done, Usage, TableRefused, ScriptRefused, SourceFault, ReplyFault, OutOfMemory}
+use Rattle.apex_host.specs.declared.status.Status.TheVariants.{Done, TableRefused, ScriptRefused, ImageRefused, SourceFault, DeviceFault, ReplyFault, OutOfMemory}
 use Rattle.apex_host.specs.declared.stops.Stop.{Stop}
 use Rattle.apex_host.specs.declared.stops.Stop.TheVariants as stop
 
@@ -23,39 +23,47 @@ use Rattle.apex_host.specs.declared.stops.Stop.TheVariants as stop
 abbrev pub EndsAs : Stop → Status → Type 0
 EndsAs s status = (status ≡ status_of_stop s) ⊎ (status ≡ ReplyFault)
 
--- the statuses that no stop has
-pub stop-so_far : (s : Stop) (status : Status) → EndsAs s status → HasCauseSoFar status
-stop-so_far (stop.Table e) status (inl i) = subst HasCauseSoFar (sym i) tt
-stop-so_far (stop.Script e) status (inl i) = subst HasCauseSoFar (sym i) tt
-stop-so_far stop.TableSource status (inl i) = subst HasCauseSoFar (sym i) tt
-stop-so_far stop.ScriptSource status (inl i) = subst HasCauseSoFar (sym i) tt
-stop-so_far stop.Tell status (inl i) = subst HasCauseSoFar (sym i) tt
-stop-so_far stop.Memory status (inl i) = subst HasCauseSoFar (sym i) tt
-stop-so_far s status (inr i) = subst HasCauseSoFar (sym i) tt
+-- the statuses that a stop of a run, and one of a format, has
+pub run-can_end : (s : Stop) (status : Status) → IsRunStop s → EndsAs s status → EndsRun status
+run-can_end (stop.Table e) status k (inl i) = subst EndsRun (sym i) tt
+run-can_end (stop.Script e) status k (inl i) = subst EndsRun (sym i) tt
+run-can_end (stop.Small wanted) status k (inl i) = absurd k
+run-can_end stop.TableSource status k (inl i) = subst EndsRun (sym i) tt
+run-can_end stop.ScriptSource status k (inl i) = subst EndsRun (sym i) tt
+run-can_end stop.Device status k (inl i) = absurd k
+run-can_end stop.Tell status k (inl i) = subst EndsRun (sym i) tt
+run-can_end stop.Memory status k (inl i) = subst EndsRun (sym i) tt
+run-can_end s status k (inr i) = subst EndsRun (sym i) tt
+
+pub format-can_end : (s : Stop) (status : Status) → IsFormatStop s → EndsAs s status → EndsFormat status
+format-can_end (stop.Table e) status k (inl i) = subst EndsFormat (sym i) tt
+format-can_end (stop.Script e) status k (inl i) = absurd k
+format-can_end (stop.Small wanted) status k (inl i) = subst EndsFormat (sym i) tt
+format-can_end stop.TableSource status k (inl i) = subst EndsFormat (sym i) tt
+format-can_end stop.ScriptSource status k (inl i) = absurd k
+format-can_end stop.Device status k (inl i) = subst EndsFormat (sym i) tt
+format-can_end stop.Tell status k (inl i) = absurd k
+format-can_end stop.Memory status k (inl i) = subst EndsFormat (sym i) tt
+format-can_end s status k (inr i) = subst EndsFormat (sym i) tt
 
 pub stop-not_done : (s : Stop) (status : Status) → EndsAs s status → status ≡ Done → ⊥
 stop-not_done (stop.Table e) status (inl i) h = let w : TableRefused ≡ Done = sym i ∙ h in cc
 stop-not_done (stop.Script e) status (inl i) h = let w : ScriptRefused ≡ Done = sym i ∙ h in cc
+stop-not_done (stop.Small wanted) status (inl i) h = let w : ImageRefused ≡ Done = sym i ∙ h in cc
 stop-not_done stop.TableSource status (inl i) h = let w : SourceFault ≡ Done = sym i ∙ h in cc
 stop-not_done stop.ScriptSource status (inl i) h = let w : SourceFault ≡ Done = sym i ∙ h in cc
+stop-not_done stop.Device status (inl i) h = let w : DeviceFault ≡ Done = sym i ∙ h in cc
 stop-not_done stop.Tell status (inl i) h = let w : ReplyFault ≡ Done = sym i ∙ h in cc
 stop-not_done stop.Memory status (inl i) h = let w : OutOfMemory ≡ Done = sym i ∙ h in cc
 stop-not_done s status (inr i) h = let w : ReplyFault ≡ Done = sym i ∙ h in cc
 
-pub stop-not_usage : (s : Stop) (status : Status) → EndsAs s status → status ≡ Usage → ⊥
-stop-not_usage (stop.Table e) status (inl i) h = let w : TableRefused ≡ Usage = sym i ∙ h in cc
-stop-not_usage (stop.Script e) status (inl i) h = let w : ScriptRefused ≡ Usage = sym i ∙ h in cc
-stop-not_usage stop.TableSource status (inl i) h = let w : SourceFault ≡ Usage = sym i ∙ h in cc
-stop-not_usage stop.ScriptSource status (inl i) h = let w : SourceFault ≡ Usage = sym i ∙ h in cc
-stop-not_usage stop.Tell status (inl i) h = let w : ReplyFault ≡ Usage = sym i ∙ h in cc
-stop-not_usage stop.Memory status (inl i) h = let w : OutOfMemory ≡ Usage = sym i ∙ h in cc
-stop-not_usage s status (inr i) h = let w : ReplyFault ≡ Usage = sym i ∙ h in cc
-
 pub is-table : (s : Stop) (status : Status) → EndsAs s status → status ≡ TableRefused → (e : TableError) × (s ≡ stop.Table e)
 is-table (stop.Table e) status (inl i) h = (e, refl)
 is-table (stop.Script e) status (inl i) h = absurd (let w : ScriptRefused ≡ TableRefused = sym i ∙ h in cc)
+is-table (stop.Small wanted) status (inl i) h = absurd (let w : ImageRefused ≡ TableRefused = sym i ∙ h in cc)
 is-table stop.TableSource status (inl i) h = absurd (let w : SourceFault ≡ TableRefused = sym i ∙ h in cc)
 is-table stop.ScriptSource status (inl i) h = absurd (let w : SourceFault ≡ TableRefused = sym i ∙ h in cc)
+is-table stop.Device status (inl i) h = absurd (let w : DeviceFault ≡ TableRefused = sym i ∙ h in cc)
 is-table stop.Tell status (inl i) h = absurd (let w : ReplyFault ≡ TableRefused = sym i ∙ h in cc)
 is-table stop.Memory status (inl i) h = absurd (let w : OutOfMemory ≡ TableRefused = sym i ∙ h in cc)
 is-table s status (inr i) h = absurd (let w : ReplyFault ≡ TableRefused = sym i ∙ h in cc)
@@ -63,8 +71,10 @@ is-table s status (inr i) h = absurd (let w : ReplyFault ≡ TableRefused = sym 
 pub is-script : (s : Stop) (status : Status) → EndsAs s status → status ≡ ScriptRefused → (e : ScriptError) × (s ≡ stop.Script e)
 is-script (stop.Table e) status (inl i) h = absurd (let w : TableRefused ≡ ScriptRefused = sym i ∙ h in cc)
 is-script (stop.Script e) status (inl i) h = (e, refl)
+is-script (stop.Small wanted) status (inl i) h = absurd (let w : ImageRefused ≡ ScriptRefused = sym i ∙ h in cc)
 is-script stop.TableSource status (inl i) h = absurd (let w : SourceFault ≡ ScriptRefused = sym i ∙ h in cc)
 is-script stop.ScriptSource status (inl i) h = absurd (let w : SourceFault ≡ ScriptRefused = sym i ∙ h in cc)
+is-script stop.Device status (inl i) h = absurd (let w : DeviceFault ≡ ScriptRefused = sym i ∙ h in cc)
 is-script stop.Tell status (inl i) h = absurd (let w : ReplyFault ≡ ScriptRefused = sym i ∙ h in cc)
 is-script stop.Memory status (inl i) h = absurd (let w : OutOfMemory ≡ ScriptRefused = sym i ∙ h in cc)
 is-script s status (inr i) h = absurd (let w : ReplyFault ≡ ScriptRefused = sym i ∙ h in cc)
@@ -72,8 +82,10 @@ is-script s status (inr i) h = absurd (let w : ReplyFault ≡ ScriptRefused = sy
 pub is-source : (s : Stop) (status : Status) → EndsAs s status → status ≡ SourceFault → (s ≡ stop.TableSource) ⊎ (s ≡ stop.ScriptSource)
 is-source (stop.Table e) status (inl i) h = absurd (let w : TableRefused ≡ SourceFault = sym i ∙ h in cc)
 is-source (stop.Script e) status (inl i) h = absurd (let w : ScriptRefused ≡ SourceFault = sym i ∙ h in cc)
+is-source (stop.Small wanted) status (inl i) h = absurd (let w : ImageRefused ≡ SourceFault = sym i ∙ h in cc)
 is-source stop.TableSource status (inl i) h = inl refl
 is-source stop.ScriptSource status (inl i) h = inr refl
+is-source stop.Device status (inl i) h = absurd (let w : DeviceFault ≡ SourceFault = sym i ∙ h in cc)
 is-source stop.Tell status (inl i) h = absurd (let w : ReplyFault ≡ SourceFault = sym i ∙ h in cc)
 is-source stop.Memory status (inl i) h = absurd (let w : OutOfMemory ≡ SourceFault = sym i ∙ h in cc)
 is-source s status (inr i) h = absurd (let w : ReplyFault ≡ SourceFault = sym i ∙ h in cc)
@@ -146,8 +158,10 @@ part-from line old mid new same part = let P : List ℕ → Type 0 = λ x. IsTol
 pub tells-part : (s : Stop) (tb sb old mid new : List ℕ) → StopsFor tb sb s → ToldBefore tb sb old mid s → IsToldPart (line_of_stop s) mid new → s ≢ stop.Memory → TellsPart tb sb old new
 tells-part (stop.Table e) tb sb old mid new why before part n = record { whole = line_of_stop (stop.Table e); due = table_refused e why; told = part-from _ old mid new before part }
 tells-part (stop.Script e) tb sb old mid new why before part n = record { whole = line_of_stop (stop.Script e); due = script_refused why.table (refusal_of e) why.accepted why.refused; told = part-from _ old mid new before part }
+tells-part (stop.Small wanted) tb sb old mid new why before part n = absurd why
 tells-part stop.TableSource tb sb old mid new why before part n = record { whole = table_fault_line; due = table_fault; told = part-from _ old mid new before part }
 tells-part stop.ScriptSource tb sb old mid new why before part n = record { whole = script_fault_line; due = script_fault why; told = part-from _ old mid new before part }
+tells-part stop.Device tb sb old mid new why before part n = absurd why
 tells-part stop.Tell tb sb old mid new why before part n = record { whole = _; due = replies before.table before.lines before.accepted before.spelled; told = stops-there _ old mid new before.told part }
 tells-part stop.Memory tb sb old mid new why before part n = absurd (n refl)
 
@@ -162,18 +176,20 @@ rose-after a b c l r = omega arith
 pub only-memory : (s : Stop) (tb sb : List ℕ) (rows : Rows) (lines : List Line) → table_of tb ≡ Ok rows → script_of rows sb ≡ Ok lines → StopsFor tb sb s
     → (s ≡ stop.TableSource → ⊥) → (s ≡ stop.ScriptSource → ⊥) → (s ≡ stop.Tell → ⊥) → s ≡ stop.Memory
 only-memory (stop.Table e) tb sb rows lines t l why a b d = absurd (let w : ◌≡◌ {A = Result Rows TableError} (Ok rows) (Err e) = sym t ∙ why in cc)
+only-memory (stop.Small wanted) tb sb rows lines t l why a b d = absurd why
 only-memory (stop.Script e) tb sb rows lines t l why a b d =
     let same_ok : ◌≡◌ {A = Result Rows TableError} (Ok why.table) (Ok rows) = sym why.accepted ∙ t in
     let same : why.table ≡ rows = cc in
     absurd (let w : ◌≡◌ {A = Result (List Line) Refusal} (Err (refusal_of e)) (Ok lines) = sym why.refused ∙ ap (λ (r : Rows). script_of r sb) same ∙ l in cc)
 only-memory stop.TableSource tb sb rows lines t l why a b d = absurd (a refl)
 only-memory stop.ScriptSource tb sb rows lines t l why a b d = absurd (b refl)
+only-memory stop.Device tb sb rows lines t l why a b d = absurd why
 only-memory stop.Tell tb sb rows lines t l why a b d = absurd (d refl)
 only-memory stop.Memory tb sb rows lines t l why a b d = refl
 
 -- what was accepted is not refused
-pub not-refused : (tb sb : List ℕ) (e : TableError) → AcceptsBoth tb sb → table_of tb ≡ Err e → ⊥
-not-refused tb sb e both refused = let w : ◌≡◌ {A = Result Rows TableError} (Ok both.table) (Err e) = sym both.accepted ∙ refused in cc
+pub not-accepted : (tb : List ℕ) (e : TableError) → AcceptsTable tb → table_of tb ≡ Err e → ⊥
+not-accepted tb e both refused = let w : ◌≡◌ {A = Result Rows TableError} (Ok both.table) (Err e) = sym both.accepted ∙ refused in cc
 
 pub not-misspelled : (tb sb : List ℕ) (rows : Rows) (r : Refusal) → AcceptsBoth tb sb → table_of tb ≡ Ok rows → script_of rows sb ≡ Err r → ⊥
 not-misspelled tb sb rows r both read refused =

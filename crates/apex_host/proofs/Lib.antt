@@ -1,5 +1,7 @@
 pub mod Bounds
+pub mod Disks
 pub mod Endings
+pub mod FormatEndings
 pub mod Offers
 pub mod Runs
 pub mod SourceReads

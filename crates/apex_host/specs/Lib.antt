@@ -1,6 +1,9 @@
+pub mod Commands
+pub mod Disk
 pub mod Reads
 pub mod Runs
 pub mod Sessions
 pub mod Statuses
 pub mod Stops
 pub mod Told
+pub mod ToldFormat

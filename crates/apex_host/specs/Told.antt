@@ -1,5 +1,5 @@
 -- What the host tells.
-use Rattle.std.specs.Prelude.{◌≡◌, ◌⊎◌, ℕ, List, [], ◌∷◌, ◌++◌, take, Ok, Err, codes, decimal, bytes_eq, Bool, false}
+use Rattle.std.specs.Prelude.{◌≡◌, ◌⊎◌, ℕ, List, [], ◌∷◌, ◌++◌, take, Ok, Err, codes, decimal}
 use Rattle.apex_types.specs.Rows.{Rows}
 use Rattle.apex_types.specs.declared.calls.Line.{Line}
 use Rattle.rig_core.specs.Outside.{IsToldPart}
@@ -85,7 +85,6 @@ TellsSourceFault table_rose script_rose old new = (table_rose × (new ≡ old ++
 
 -- a text that is told in part where telling it fails: the reply lines of the run, or the line of a refusal or a fault
 pub data IsDue (table_bytes script_bytes : List ℕ) : List ℕ → Type 0 where
-  usage : IsDue table_bytes script_bytes usage_line
   table_refused : (e : TableError) → table_of table_bytes ≡ Err e → IsDue table_bytes script_bytes (table_refused_line e)
   script_refused : (table : Rows) (r : Refusal) → table_of table_bytes ≡ Ok table → script_of table script_bytes ≡ Err r → IsDue table_bytes script_bytes (refusal_line r)
   table_fault : IsDue table_bytes script_bytes table_fault_line
@@ -97,11 +96,3 @@ pub record TellsPart (table_bytes script_bytes old new : List ℕ) : Type 0 wher
   pub whole : List ℕ
   pub due : IsDue table_bytes script_bytes whole
   pub told : IsToldPart whole old new
-
--- ---- the words
-
--- whether the words are the one command that there is so far
-abbrev pub is_run : List (List ℕ) → Bool
-is_run [] = false
-is_run (word ∷ []) = bytes_eq word (codes "run")
-is_run (word ∷ next ∷ words) = false

@@ -7,6 +7,7 @@ ghost use Rattle.apex_model.specs.Run.{text_of, told_for};
 ghost use Rattle.apex_model.specs.World.{World, world_after};
 ghost use Rattle.rig_core.specs.Causes.{Rose};
 ghost use Rattle.rig_core.specs.Outside.{IsToldPart};
+ghost use Rattle.apex_host.specs.Disk.{OnlyTells};
 ghost use Rattle.apex_host.specs.Sessions.{table_of_session, IsReady, StandsFor, IsOffered};
 ghost use Rattle.apex_host.specs.Told.{run_text};
 
@@ -37,6 +38,7 @@ fn turn<R: Rig>(session: &mut Session, line: &Line, rig: &mut R) -> Result<(), L
     ensures silent { R.tells_text → result ≡ Err LineStop.Memory → (R.state rig.new).told ≡ (R.state rig.old).told }
     ensures later { (R.state rig.old).tell_faults ≤ (R.state rig.new).tell_faults }
     ensures cause { result ≡ Err LineStop.Tell → Rose (R.state rig.old).tell_faults (R.state rig.new).tell_faults }
+    ensures disk { OnlyTells R.tells_view (R.state rig.old) (R.state rig.new) }
 {
     match session.step(line, rig) {
         Err(_) => Err(LineStop::Memory),
@@ -63,6 +65,7 @@ pub fn carry_out<R: Rig>(
         → (done : ℕ) × ((R.state rig.new).told ≡ (R.state rig.old).told ++ run_text (table_of_session session.old) w (take done script.now)) }
     ensures later { (R.state rig.old).tell_faults ≤ (R.state rig.new).tell_faults }
     ensures cause { result ≡ Err LineStop.Tell → Rose (R.state rig.old).tell_faults (R.state rig.new).tell_faults }
+    ensures disk { OnlyTells R.tells_view (R.state rig.old) (R.state rig.new) }
 {
     'lines: for k in 0..script.len() {
         match turn(session, script.line(k), rig) {

@@ -1,18 +1,28 @@
-//! Why a run ends before its end.
+//! Why a command ends before its end.
 ghost use Rattle.std.specs.Prelude.{◌≡◌};
 ghost use Rattle.apex_host.specs.Stops.{stop_of_table, stop_of_script};
 
 use call_script::ScriptError;
 use config_table::TableError;
 
-/// Why a run ends before its end.
+/// Why a command ends before its end.
 #[derive(Clone, Copy, Debug, PartialEq, Eq)]
 pub enum Stop {
+    /// The table is refused.
     Table(TableError),
+    /// The script is refused.
     Script(ScriptError),
+    /// The device has fewer bytes than these.
+    Small(u32),
+    /// A read of the table's source failed.
     TableSource,
+    /// A read of the script's source failed.
     ScriptSource,
+    /// A call of the device failed.
+    Device,
+    /// Telling a reply failed.
     Tell,
+    /// No memory was left.
     Memory,
 }
 

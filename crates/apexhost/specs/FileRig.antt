@@ -1,17 +1,27 @@
--- Standard output with no disk as the outside: it tells nothing, and allows no image, since it keeps none.
-use Rattle.std.specs.Prelude.{[]}
+-- A file and standard output as the outside: it tells nothing, and allows no image, since it keeps none.
+use Rattle.std.specs.Prelude.{◌≡◌, ℕ, []}
 use Rattle.std.proofs.Common.{lit≤}
 use Rattle.rig_core.specs.Outside.{Outside, Sound}
+use Rattle.rig_core.specs.Leaves.{IsAllSettled}
+use Rattle.apexhost.specs.declared.disk_file.DiskFile.{DiskFile}
 use Rattle.apexhost.specs.declared.file_rig.FileRig.{FileRig}
 
+-- the bytes of the disk: 131,072 blocks of 512
+abbrev pub disk_size : ℕ
+disk_size = 67108864
+
+-- the file of the disk
+abbrev pub disk_of : {R F W : Type 0} → FileRig R F W → DiskFile R F
+disk_of r = r.disk
+
 -- the output that lines are told on
-abbrev pub out_of : {W : Type 0} → FileRig W → W
+abbrev pub out_of : {R F W : Type 0} → FileRig R F W → W
 out_of r = r.out
 
--- the rig as the outside
-abbrev pub file_state : {W : Type 0} → FileRig W → Outside
+-- The rig as the outside. What reads give and the text told are not known, so nothing stands for them.
+abbrev pub file_state : {R F W : Type 0} → FileRig R F W → Outside
 file_state r = record {
-  size = 0;
+  size = disk_size;
   view = [];
   told = [];
   writes = r.writes;
@@ -25,7 +35,7 @@ file_state r = record {
 }
 
 -- what holds of every such rig
-pub file_sound : {W : Type 0} → (r : FileRig W) → Sound ⊥ ⊥ (file_state r)
+pub file_sound : {R F W : Type 0} → (r : FileRig R F W) → Sound ⊥ ⊥ (file_state r)
 file_sound r = record {
   size_fits = lit≤ tt;
   view_fills = λ none. absurd none;
@@ -36,3 +46,15 @@ file_sound r = record {
   told_now = λ image told none. absurd none;
   present = λ none. absurd none;
 }
+
+-- nothing called and nothing failed so far, and nothing pending
+pub record IsUnused (o : Outside) : Type 0 where
+  pub size : o.size ≡ disk_size
+  pub writes : o.writes ≡ 0
+  pub syncs : o.syncs ≡ 0
+  pub tells : o.tells ≡ 0
+  pub clock : o.clock ≡ 0
+  pub read_faults : o.read_faults ≡ 0
+  pub write_faults : o.write_faults ≡ 0
+  pub tell_faults : o.tell_faults ≡ 0
+  pub settled : IsAllSettled o

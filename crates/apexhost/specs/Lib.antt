@@ -1,3 +1,5 @@
+pub mod DiskFile
+pub mod Faults
 pub mod FileRig
 pub mod FileSource
 pub mod InputSource

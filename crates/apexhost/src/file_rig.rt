@@ -1,15 +1,27 @@
-// Standard output with no disk as a rig.
-ghost use Rattle.std.specs.Prelude.{◌≡◌, ◌+◌, ◌-◌, ◌^◌, ◌≤◌, [], min, length, OnOk, is_ok, IsErr, if◌then◌else◌};
+// A file and standard output as a rig.
+ghost use Rattle.std.specs.Prelude.{◌≡◌, ◌+◌, ◌-◌, ◌^◌, ◌≤◌, ◌++◌, min, length, OnOk, is_ok};
 ghost use Rattle.std.specs.Io.KnownBytes.{Appends};
+ghost use Rattle.rig_core.specs.Causes.{HasCause};
+ghost use Rattle.apexhost.specs.Faults.{counted};
 
+use crate::disk_file::DiskFile;
 use rig_core::{Failed, Rig};
+use std::fs::OpenFile;
 use std::io;
 use std::io::Write;
+use std::os::unix::fs::FileExt;
+use std::rt::Files;
 
-/// The output that lines are told on, and as yet no disk: its size is 0, and each read, write and sync fails. It
-/// tells neither its view nor its text, and keeps nothing of cuts.
+/// The disk's size in bytes: 131,072 blocks of 512.
+const DISK_SIZE: u64 = 67_108_864;
+
+/// A file as the disk, and the output that lines are told on. The file is opened at the first read, write or sync, and
+/// made where it is absent; a call that can't open it fails, and the next one tries again. The disk has its whole size
+/// from the start: bytes past the file's end are zeros. The rig tells neither its view nor its text, and keeps nothing
+/// of cuts. The size and the form of the file are this project's own.
 #[derive(Drop)]
-pub struct FileRig<W> {
+pub struct FileRig<'a, R, F, W> {
+    disk: DiskFile<'a, R, F>,
     out: W,
     writes: u64,
     syncs: u64,
@@ -21,16 +33,18 @@ pub struct FileRig<W> {
     ghost counted: { clock ≡ min (writes + syncs + tells) (2 ^ 64 - 1) },
 }
 
-impl<W: Write> FileRig<W> {
-    ghost use Rattle.rig_core.specs.Outside.{IsFresh};
-    ghost use Rattle.apexhost.specs.FileRig.{file_state, out_of};
+impl<'a, R: Files<File = F>, F: FileExt + OpenFile + Drop, W: Write> FileRig<'a, R, F, W> {
+    ghost use Rattle.apexhost.specs.DiskFile.{IsClosed};
+    ghost use Rattle.apexhost.specs.FileRig.{file_state, disk_of, out_of, IsUnused};
 
-    /// A rig that tells on this output.
-    pub fn new(out: W) -> FileRig<W>
-        ensures fresh { IsFresh [] (file_state result) }
+    /// A rig over the file of this path, which tells on this output.
+    pub fn new(files: R, path: &'a str, out: W) -> FileRig<'a, R, F, W>
+        ensures unused { IsUnused (file_state result) }
+        ensures closed { IsClosed (disk_of result) }
         ensures output { out_of result ≡ out }
     {
         FileRig {
+            disk: DiskFile::new(files, path),
             out,
             writes: 0,
             syncs: 0,
@@ -39,6 +53,21 @@ impl<W: Write> FileRig<W> {
             read_faults: 0,
             write_faults: 0,
             tell_faults: 0,
+        }
+    }
+}
+
+/// What a call answers that came to this outcome: its count of faults is one higher where it failed.
+fn count_fault(outcome: io::Result<()>, faults: &mut u64) -> Result<(), Failed>
+    ensures counted { faults.new ≡ counted faults.old result }
+    ensures cause { HasCause faults.old faults.new result }
+    ensures outcome { is_ok result ≡ is_ok outcome }
+{
+    match outcome {
+        Ok(()) => Ok(()),
+        Err(_) => {
+            *faults = faults.saturating_add(1);
+            Err(Failed)
         }
     }
 }
@@ -52,10 +81,10 @@ fn write_line<W: Write>(out: &mut W, line: &[u8]) -> io::Result<()>
     Ok(())
 }
 
-impl<W: Write> Rig for FileRig<W> {
-    ghost use Rattle.rig_core.specs.Causes.{HasCause, one_more};
-    ghost use Rattle.rig_core.specs.Outside.{AllNow, Later, MakesAtMost, Ticks, AddsNone, Tears, Speaks};
-    ghost use Rattle.apexhost.specs.FileRig.{file_state, file_sound, out_of};
+impl<'a, R: Files<File = F>, F: FileExt + OpenFile + Drop, W: Write> Rig for FileRig<'a, R, F, W> {
+    ghost use Rattle.rig_core.specs.Outside.{AllNow, Later, MakesAtMost, Ticks, AddsNone, Tears, IsToldPart, Speaks, Stops};
+    ghost use Rattle.rig_core.specs.Bytes.{part, put, SameElsewhere};
+    ghost use Rattle.apexhost.specs.FileRig.{file_state, file_sound, disk_of, out_of};
 
     ghost tells_view = { ⊥ };
 
@@ -67,60 +96,80 @@ impl<W: Write> Rig for FileRig<W> {
 
     ghost sound = { file_sound };
 
+    /// 67,108,864 bytes, however long the file is.
     fn size(&self) -> u64 {
-        0
+        DISK_SIZE
     }
 
-    /// Fails, since there is no disk as yet.
+    /// Reads from the file, and gives zeros past its end. It fails where the file can't be opened or read, and the
+    /// buffer may then hold anything.
     fn read(&mut self, at: u64, into: &mut [u8]) -> Result<(), Failed>
         requires { at + length into.old ≤ (file_state self.old).size }
         ensures later { Later (file_state self.old) (file_state self.new) }
         ensures made { MakesAtMost 0 0 0 (file_state self.old) (file_state self.new) }
         ensures clock { (file_state self.new).clock ≡ (file_state self.old).clock }
         ensures told { (file_state self.new).told ≡ (file_state self.old).told }
+        ensures view { ⊥ → (file_state self.new).view ≡ (file_state self.old).view }
+        ensures bytes { ⊥ → OnOk result (into.new ≡ part at (length into.old) (file_state self.old).view) }
         ensures cuts { AddsNone (file_state self.old) (file_state self.new) }
         ensures cause { HasCause (file_state self.old).read_faults (file_state self.new).read_faults result }
-        ensures refused { IsErr result }
+        ensures counted { (file_state self.new).read_faults ≡ counted (file_state self.old).read_faults result }
+        ensures write_faults { (file_state self.new).write_faults ≡ (file_state self.old).write_faults }
+        ensures tell_faults { (file_state self.new).tell_faults ≡ (file_state self.old).tell_faults }
         ensures output { out_of self.new ≡ out_of self.old }
     {
-        self.read_faults = self.read_faults.saturating_add(1);
-        Err(Failed)
+        let read = self.disk.read(at, into);
+        count_fault(read, &mut self.read_faults)
     }
 
-    /// Fails, since there is no disk as yet.
+    /// Writes to the file, all bytes by one call of the system where it takes them at once. It fails where the file can't
+    /// be opened or written, and any part of the bytes may then stand there.
     fn write(&mut self, at: u64, bytes: &[u8]) -> Result<(), Failed>
         requires { at + length bytes.now ≤ (file_state self.old).size }
         ensures later { Later (file_state self.old) (file_state self.new) }
         ensures made { MakesAtMost 1 0 0 (file_state self.old) (file_state self.new) }
         ensures clock { Ticks (file_state self.old) (file_state self.new) }
         ensures told { (file_state self.new).told ≡ (file_state self.old).told }
+        ensures written { ⊥ → OnOk result ((file_state self.new).view ≡ put at bytes.now (file_state self.old).view) }
+        ensures elsewhere { ⊥ → SameElsewhere at (length bytes.now) (file_state self.old).view (file_state self.new).view }
         ensures cuts { Tears at (length bytes.now) (file_state self.old) (file_state self.new) }
+        ensures rises { ⊥ → OnOk result ((file_state self.new).clock ≡ (file_state self.old).clock + 1) }
+        ensures stops { ⊥ → Stops (file_state self.old) (file_state self.new) }
         ensures cause { HasCause (file_state self.old).write_faults (file_state self.new).write_faults result }
-        ensures refused { IsErr result }
+        ensures counted { (file_state self.new).write_faults ≡ counted (file_state self.old).write_faults result }
+        ensures read_faults { (file_state self.new).read_faults ≡ (file_state self.old).read_faults }
+        ensures tell_faults { (file_state self.new).tell_faults ≡ (file_state self.old).tell_faults }
         ensures output { out_of self.new ≡ out_of self.old }
     {
         self.writes = self.writes.saturating_add(1);
         self.clock = self.clock.saturating_add(1);
-        self.write_faults = self.write_faults.saturating_add(1);
-        Err(Failed)
+        let written = self.disk.write(at, bytes);
+        count_fault(written, &mut self.write_faults)
     }
 
-    /// Fails, since there is no disk as yet.
+    /// Asks for the strongest flush of the file. It opens the file for it where it isn't open yet, since an earlier run
+    /// may have left bytes of it unwritten. After a failure nothing is known of what reached the disk, and no later sync
+    /// makes it known.
     fn sync(&mut self) -> Result<(), Failed>
         ensures later { Later (file_state self.old) (file_state self.new) }
         ensures made { MakesAtMost 0 1 0 (file_state self.old) (file_state self.new) }
         ensures clock { Ticks (file_state self.old) (file_state self.new) }
         ensures told { (file_state self.new).told ≡ (file_state self.old).told }
+        ensures view { ⊥ → (file_state self.new).view ≡ (file_state self.old).view }
         ensures cuts { AddsNone (file_state self.old) (file_state self.new) }
         ensures durable { OnOk result (AllNow (λ image. image ≡ (file_state self.new).view) (file_state self.new)) }
+        ensures rises { ⊥ → OnOk result ((file_state self.new).clock ≡ (file_state self.old).clock + 1) }
+        ensures stops { ⊥ → Stops (file_state self.old) (file_state self.new) }
         ensures cause { HasCause (file_state self.old).write_faults (file_state self.new).write_faults result }
-        ensures refused { IsErr result }
+        ensures counted { (file_state self.new).write_faults ≡ counted (file_state self.old).write_faults result }
+        ensures read_faults { (file_state self.new).read_faults ≡ (file_state self.old).read_faults }
+        ensures tell_faults { (file_state self.new).tell_faults ≡ (file_state self.old).tell_faults }
         ensures output { out_of self.new ≡ out_of self.old }
     {
         self.syncs = self.syncs.saturating_add(1);
         self.clock = self.clock.saturating_add(1);
-        self.write_faults = self.write_faults.saturating_add(1);
-        Err(Failed)
+        let synced = self.disk.sync();
+        count_fault(synced, &mut self.write_faults)
     }
 
     /// Writes the line on the output, and flushes. Where one of these fails, a prefix of the line may stand there.
@@ -129,21 +178,23 @@ impl<W: Write> Rig for FileRig<W> {
         ensures made { MakesAtMost 0 0 1 (file_state self.old) (file_state self.new) }
         ensures clock { Ticks (file_state self.old) (file_state self.new) }
         ensures told { (file_state self.new).told ≡ (file_state self.old).told }
+        ensures all_told { ⊥ → OnOk result ((file_state self.new).told ≡ (file_state self.old).told ++ line.now) }
+        ensures part { ⊥ → IsToldPart line.now (file_state self.old).told (file_state self.new).told }
+        ensures view { ⊥ → (file_state self.new).view ≡ (file_state self.old).view }
         ensures cuts { Speaks line.now (file_state self.old) (file_state self.new) }
+        ensures rises { ⊥ → OnOk result ((file_state self.new).clock ≡ (file_state self.old).clock + 1) }
+        ensures stops { ⊥ → Stops (file_state self.old) (file_state self.new) }
         ensures cause { HasCause (file_state self.old).tell_faults (file_state self.new).tell_faults result }
-        ensures counted { let faults = (file_state self.old).tell_faults in
-            (file_state self.new).tell_faults ≡ (if is_ok result then faults else one_more faults) }
+        ensures counted { (file_state self.new).tell_faults ≡ counted (file_state self.old).tell_faults result }
+        ensures read_faults { (file_state self.new).read_faults ≡ (file_state self.old).read_faults }
+        ensures write_faults { (file_state self.new).write_faults ≡ (file_state self.old).write_faults }
         ensures written { OnOk result (Appends (W.contents (out_of self.old)) (W.contents (out_of self.new)) line.now) }
+        ensures disk { disk_of self.new ≡ disk_of self.old }
     {
         self.tells = self.tells.saturating_add(1);
         self.clock = self.clock.saturating_add(1);
-        match write_line(&mut self.out, line) {
-            Ok(()) => Ok(()),
-            Err(_) => {
-                self.tell_faults = self.tell_faults.saturating_add(1);
-                Err(Failed)
-            }
-        }
+        let told = write_line(&mut self.out, line);
+        count_fault(told, &mut self.tell_faults)
     }
 }
 
@@ -151,14 +202,110 @@ impl<W: Write> Rig for FileRig<W> {
 mod tests {
     use super::*;
     use std::io::Cursor;
+    use std::path::PathBuf;
+    use std::test::Fail;
+    use std::{env, fs, process};
+
+    /// A path of this name in the temporary folder.
+    fn temporary_path(rt: &HostRuntime, name: &str) -> Result<PathBuf, Fail> {
+        let file = format!(in rt.alloc(); "apexhost-{}-{name}.img", process::id(rt.process()))?;
+        let mut path = env::temp_dir(rt)?;
+        path.push(file.as_str())?;
+        Ok(path)
+    }
 
     #[test]
     fn a_line_past_the_room_of_the_output_fails(rt: HostRuntime) {
-        let mut rig = FileRig::new(Cursor::new([b'.'; 12]));
+        let mut rig = FileRig::new(&rt, "absent.img", Cursor::new([b'.'; 12]));
         assert_eq!(rt; rig.tell(b"1 LINE\n"), Ok(()));
         assert_eq!(rt; rig.tell(b"2 LINE\n"), Err(Failed));
         assert_eq!(rt; rig.tell_faults, 1);
         assert_eq!(rt; rig.clock, 2);
         assert!(rt; *rig.out.get_ref() == *b"1 LINE\n2 LIN");
+    }
+
+    #[test]
+    fn an_absent_file_is_made_at_the_first_call_of_the_disk(rt: HostRuntime) -> Result<(), Fail> {
+        let path = temporary_path(&rt, "absent")?;
+        let mut rig = FileRig::new(&rt, path.as_str(), Cursor::new([b'.'; 8]));
+        assert_eq!(rt; rig.size(), 67_108_864);
+        assert_eq!(rt; rig.tell(b"1 LINE\n"), Ok(()));
+        assert!(rt; !fs::exists(&rt, path.as_str())?);
+        let mut into = [b'.'; 3];
+        assert_eq!(rt; rig.read(512, &mut into), Ok(()));
+        assert!(rt; into == [0; 3]);
+        assert!(rt; fs::exists(&rt, path.as_str())?);
+        fs::remove_file(&rt, path.as_str())?;
+        assert_eq!(rt; rig.read_faults, 0);
+        Ok(())
+    }
+
+    #[test]
+    fn what_is_written_is_read_by_the_next_rig(rt: HostRuntime) -> Result<(), Fail> {
+        let path = temporary_path(&rt, "kept")?;
+        let mut blocks = [b'a'; 1536];
+        blocks[0] = b'f';
+        blocks[1535] = b'l';
+        let mut rig = FileRig::new(&rt, path.as_str(), Cursor::new([0; 0]));
+        assert_eq!(rt; rig.sync(), Ok(()));
+        assert!(rt; fs::exists(&rt, path.as_str())?);
+        assert_eq!(rt; rig.write(1024, &blocks), Ok(()));
+        assert_eq!(rt; rig.write(1025, b"bc"), Ok(()));
+        assert_eq!(rt; rig.write(67_108_863, b"z"), Ok(()));
+        assert_eq!(rt; rig.sync(), Ok(()));
+        assert_eq!(rt; rig.write_faults, 0);
+        drop(rig);
+        let mut next = FileRig::new(&rt, path.as_str(), Cursor::new([0; 0]));
+        let mut into = [b'.'; 6];
+        assert_eq!(rt; next.read(1022, &mut into), Ok(()));
+        assert!(rt; into == *b"\0\0fbca");
+        assert_eq!(rt; next.read(2557, &mut into), Ok(()));
+        assert!(rt; into == *b"aal\0\0\0");
+        let mut last = [b'.'];
+        assert_eq!(rt; next.read(67_108_863, &mut last), Ok(()));
+        assert_eq!(rt; last[0], b'z');
+        fs::remove_file(&rt, path.as_str())?;
+        Ok(())
+    }
+
+    #[test]
+    fn a_short_file_is_as_if_filled_with_zeros(rt: HostRuntime) -> Result<(), Fail> {
+        let path = temporary_path(&rt, "short")?;
+        fs::write(&rt, path.as_str(), "disk")?;
+        let mut rig = FileRig::new(&rt, path.as_str(), Cursor::new([0; 0]));
+        let mut into = [b'.'; 4];
+        assert_eq!(rt; rig.read(2, &mut into), Ok(()));
+        assert!(rt; into == *b"sk\0\0");
+        into = [b'.'; 4];
+        assert_eq!(rt; rig.read(4, &mut into), Ok(()));
+        assert!(rt; into == [0; 4]);
+        assert_eq!(rt; rig.write(7, b"s"), Ok(()));
+        assert!(rt; fs::read(&rt, path.as_str())?.as_slice() == b"disk\0\0\0s".as_slice());
+        fs::remove_file(&rt, path.as_str())?;
+        Ok(())
+    }
+
+    #[test]
+    fn each_call_with_a_folder_in_the_files_place_fails_until_it_is_gone(
+        rt: HostRuntime,
+    ) -> Result<(), Fail> {
+        let path = temporary_path(&rt, "folder")?;
+        fs::create_dir(&rt, path.as_str())?;
+        let mut rig = FileRig::new(&rt, path.as_str(), Cursor::new([0; 0]));
+        let mut into = [b'.'; 2];
+        assert_eq!(rt; rig.read(0, &mut into), Err(Failed));
+        assert_eq!(rt; rig.write(0, b"ab"), Err(Failed));
+        assert_eq!(rt; rig.sync(), Err(Failed));
+        assert_eq!(rt; rig.read(0, &mut into), Err(Failed));
+        assert_eq!(rt; rig.read_faults, 2);
+        assert_eq!(rt; rig.write_faults, 2);
+        assert_eq!(rt; rig.tell_faults, 0);
+        assert_eq!(rt; rig.clock, 2);
+        fs::remove_dir(&rt, path.as_str())?;
+        assert_eq!(rt; rig.write(0, b"ab"), Ok(()));
+        assert_eq!(rt; rig.read(0, &mut into), Ok(()));
+        assert!(rt; into == *b"ab");
+        fs::remove_file(&rt, path.as_str())?;
+        Ok(())
     }
 }

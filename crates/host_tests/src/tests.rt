@@ -1,5 +1,10 @@
+ghost use Rattle.std.specs.Prelude.{IfOk};
+ghost use Rattle.rig_core.specs.Leaves.{IsAllSettled};
+ghost use Rattle.rig_core.specs.MemRig.{mem_state};
+
 mod directory_calls;
 mod file_calls;
+mod formats;
 mod refusals;
 
 use apex_host::{Status, host};
@@ -58,7 +63,9 @@ fn source(alloc: Global, bytes: &[u8], failing: u64) -> Result<MemSource, OutOfM
 }
 
 /// A rig in memory without a disk, of which the telling of this number fails, counted from 1; none at 0.
-fn rig(alloc: Global, failing: u64) -> Result<MemRig, OutOfMemory> {
+fn rig(alloc: Global, failing: u64) -> Result<MemRig, OutOfMemory>
+    ensures { IfOk result (λ rig. IsAllSettled (mem_state rig)) }
+{
     let mut tells = FailList::new(alloc);
     tells.push(CallKind::Tell, failing)?;
     MemRig::new(alloc, ByteList::new(alloc), tells, 64)

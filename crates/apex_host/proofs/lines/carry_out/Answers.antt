@@ -6,6 +6,7 @@ use Rattle.apex_model.specs.World.{World, world_after}
 use Rattle.rig_core.specs.Outside.{IsToldPart}
 use Rattle.apex_host.specs.Sessions.{table_of_session, StandsFor}
 use Rattle.apex_host.specs.Told.{run_text}
+use Rattle.apex_host.proofs.Disks.{tells-then}
 use Rattle.apex_host.proofs.Runs.{part-of-run, world-more, text-more, plain-line}
 use Rattle.apex_host.proofs.lines.carry_out.Goals as goal
 
@@ -43,4 +44,9 @@ lines-preserved g c =
           ∙ append_assoc start (run_text table w (take c.lines.k c.args.script.now)) (text_of (told_for table [] here line.number line.deed))
           ∙ ap (λ (x : List ℕ). start ++ x) (sym (text-more table w c.args.script.now c.lines.k line c.line.ensures.value));
       later = omega arith;
+      disk = tells-then g.R.Rig.tells_view g.R.Rig.keeps_cuts (g.R.Rig.state c.args.rig.now) (g.R.Rig.state c.lines.rig) (g.R.Rig.state c.turn.new.rig) (g.met.R.Rig.sound c.lines.rig) c.lines.invariant.disk c.turn.ensures.disk;
     }
+
+pub returns-in-Err-clause-disk : goal.returns-in-Err-clause-disk
+returns-in-Err-clause-disk g c =
+    tells-then g.R.Rig.tells_view g.R.Rig.keeps_cuts (g.R.Rig.state c.args.rig.now) (g.R.Rig.state c.lines.rig) (g.R.Rig.state c.turn.new.rig) (g.met.R.Rig.sound c.lines.rig) c.lines.invariant.disk c.turn.ensures.disk
