@@ -1,0 +1,10 @@
+pub mod JournalRoom
+pub mod Lists
+pub mod Marking
+pub mod Mounted
+pub mod NamedNumbers
+pub mod Overlaid
+pub mod Places
+pub mod ReadEntries
+pub mod Replaying
+pub mod Tables

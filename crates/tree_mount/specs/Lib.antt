@@ -1,0 +1,4 @@
+pub mod Bodies
+pub mod Marks
+pub mod Numbers
+pub mod Region
