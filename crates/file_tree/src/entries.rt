@@ -65,14 +65,14 @@ pub fn child_place(entries: &[Option<Entry>], parent: DirNode, name: &Name) -> O
         .position(|place| has_child(place, parent, name))
 }
 
-/// What is stored of the entry at this place; of an unused one nothing is.
+/// What is stored of the entry at this place; of an unused one, and past the end, nothing is.
 pub fn stored_at(entries: &[Option<Entry>], k: usize) -> Stored
-    requires { k < length entries.now }
     ensures { result ≡ stored_at_place (slot entries.now k) }
 {
-    match &entries[k] {
+    match entries.get(k) {
         None => Stored::nothing(),
-        Some(entry) => entry.stored.copy(),
+        Some(None) => Stored::nothing(),
+        Some(Some(entry)) => entry.stored.copy(),
     }
 }
 

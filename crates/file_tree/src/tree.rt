@@ -185,9 +185,9 @@ impl Tree {
         });
     }
 
-    /// The size in bytes and the change count that the durable body has of a file.
+    /// The size in bytes and the change count that the durable body has of a file: both are 0 where the entry isn't
+    /// used, or there is none.
     pub fn stored(&self, file: FileNode) -> (u32, u32)
-        requires { IsSome (slot self.now.files file.0) }
         ensures value { result ≡ stored_of self.now file.0 }
         ensures fits { (stored_of self.now file.0).0 ≤ 1048576 }
     {

@@ -253,6 +253,8 @@ fn what_is_stored_of_a_file_goes_with_its_entry(rt: HostRuntime) -> Result<(), F
     let mut tree = Tree::new(rt.alloc(), 2, 1)?;
     assert!(rt; file_at(&mut tree, b"/NV1/FMS/A").is_some());
     assert_eq!(rt; stored_at(&tree, b"/NV1/FMS/A"), Some((0, 0)));
+    assert_eq!(rt; tree.stored(FileNode(1)), (0, 0));
+    assert_eq!(rt; tree.stored(FileNode(2)), (0, 0));
     assert!(rt; note_stored(&mut tree, b"/NV1/FMS/A", 7));
     assert_eq!(rt; stored_at(&tree, b"/NV1/FMS/A"), Some((1048576, 7)));
     assert!(rt; moved(&mut tree, b"/NV1/FMS/A", b"/NV1/FMS/B"));

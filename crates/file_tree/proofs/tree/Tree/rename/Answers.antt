@@ -5,9 +5,6 @@ use Rattle.file_tree.specs.Table.{stored_at}
 use Rattle.file_tree.proofs.Changes.{files-within, renamed_with, some_is, each_some, stored-seen}
 use Rattle.file_tree.proofs.tree.Tree.rename.Goals as goal
 
-pub stored_at-stored-requires : goal.stored_at-stored-requires
-stored_at-stored-requires c = subst (λ (xs : List (Option Entry)). c.args.file.0 < length xs) (sym c.deref.ensures.value) (files-within _ _ _ c.self.view_is c.args.file.0 c.requires.file)
-
 pub index_mut-requires : goal.index_mut-requires
 index_mut-requires c = subst (λ n. c.args.file.0 < n) (sym c.self.inside.files.ok.0) (files-within _ _ _ c.self.view_is c.args.file.0 c.requires.file)
 

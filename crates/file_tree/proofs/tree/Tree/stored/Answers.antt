@@ -1,13 +1,10 @@
-use Rattle.std.proofs.Common.{◌<◌, ◌≤◌, length, subst, sym, ap, ◌∙◌, List, Option}
+use Rattle.std.proofs.Common.{◌≤◌, subst, sym, ap, ◌∙◌, List, Option}
 use Rattle.std.specs.Prelude.{ℕ}
 use Rattle.file_tree.specs.declared.entries.Entry.{Entry}
 use Rattle.file_tree.specs.Entries.{slot}
 use Rattle.file_tree.specs.Table.{stored_at}
-use Rattle.file_tree.proofs.Changes.{files-within, stored-seen}
+use Rattle.file_tree.proofs.Changes.{stored-seen}
 use Rattle.file_tree.proofs.tree.Tree.stored.Goals as goal
-
-pub stored_at-requires : goal.stored_at-requires
-stored_at-requires c = subst (λ (xs : List (Option Entry)). c.args.file.0 < length xs) (sym c.deref.ensures.value) (files-within _ _ _ c.self.view_is c.args.file.0 c.requires)
 
 pub returns-clause-value : goal.returns-clause-value
 returns-clause-value c = c.both.ensures.value ∙ c.stored_at.ensures ∙ ap (λ (xs : List (Option Entry)). stored_at (slot xs c.args.file.0)) c.deref.ensures.value ∙ sym (stored-seen _ _ _ c.self.view_is c.args.file.0)
