@@ -1,5 +1,5 @@
 -- Which of two slots is the newest, in images that differ from one another in the older.
-use Rattle.std.proofs.Common.{◌≡◌, inl, inr, ℕ, zero, suc, Some, option_map, ◌+◌, ◌-◌, ◌%◌, ◌<◌, ◌≤◌, List, length, sym, ◌∙◌, ap, subst, arith}
+use Rattle.std.proofs.Common.{◌≡◌, inl, inr, ℕ, zero, suc, Some, option_map, ◌+◌, ◌-◌, ◌%◌, ◌<◌, ◌≤◌, List, length, sym, ◌∙◌, ap, arith}
 use Rattle.std.proofs.lemmas.Bool.{cases_eq}
 use Rattle.rig_core.specs.Bytes.{byte, part}
 use Rattle.rig_core.proofs.Put.{part_same}

@@ -6,7 +6,7 @@ use Rattle.rig_core.specs.Bytes.{byte, part, SameWithin}
 use Rattle.rig_core.specs.Leaves.{SpeaksOf}
 use Rattle.rig_core.proofs.Put.{part_same}
 use Rattle.gate_slots.specs.declared.slots.Slots.{Slots}
-use Rattle.gate_slots.specs.Slots.{Knows, IsNewest, Place, place_of, gate_of, slot_size, slots_size, content_size, slot_in, newest_slot}
+use Rattle.gate_slots.specs.Slots.{Knows, Place, place_of, gate_of, slot_size, slots_size, content_size, slot_in, newest_slot}
 use Rattle.gate_slots.specs.Place.{newest_content}
 
 gate_low : (p : Place) (slot : ℕ) → p.start ≤ gate_of p slot

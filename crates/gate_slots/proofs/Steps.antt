@@ -5,7 +5,7 @@ use Rattle.rig_core.specs.Bytes.{byte, part, put, SameElsewhere}
 use Rattle.rig_core.specs.Outside.{Outside, Sound}
 use Rattle.rig_core.specs.Leaves.{Leaves, FromNow, LeavesElsewhere, IsSettled, IsAllSettled}
 use Rattle.rig_core.proofs.Put.{put_within, put_elsewhere}
-use Rattle.rig_core.proofs.Moments.{leaves_weaker}
+use Rattle.rig_core.proofs.Moments.{leaves_weaker, elsewhere_then, elsewhere_wider}
 use Rattle.gate_slots.specs.declared.slots.Slots.{Slots}
 use Rattle.gate_slots.specs.Slots.{IsOpen, IsNewest, Knows, Place, gate_of, slot_size, slots_size, content_size, place_of, newest_content}
 use Rattle.gate_slots.proofs.Newest.{content_when}
@@ -38,6 +38,14 @@ Filled slots view new image = IsFilled (older_of slots) (newest_of slots) (slot_
 abbrev pub OldOrNew : Slots → List ℕ → List ℕ → List ℕ → Type 0
 OldOrNew slots content new image = (newest_content (place_of slots) image ≡ Some content) ⊎ (newest_content (place_of slots) image ≡ Some new)
 
+-- the old content, or the new one with all around the slots as in the view
+abbrev pub Switched : Slots → List ℕ → List ℕ → List ℕ → List ℕ → Type 0
+Switched slots content new view image = (newest_content (place_of slots) image ≡ Some content)
+    ⊎ ((newest_content (place_of slots) image ≡ Some new) × SameElsewhere (place_of slots).start (slots_size (place_of slots)) view image)
+
+pub switched_is_either : (slots : Slots) (content new view image : List ℕ) → Switched slots content new view image → OldOrNew slots content new image
+switched_is_either slots content new view image has = ⊎_elim (λ old. inl old) (λ switched. inr switched.0) has
+
 -- from what `commit` requires
 pub begin : (V K : Type 0) (slots : Slots) (body tail : List ℕ) (next : ℕ) (o : Outside) → V → Sound V K o → length body ≡ 512 * slots.body_blocks → 0 < slots.body_blocks → length tail ≡ 512 * slots.tail_blocks
     → slots.start + slots_size (place_of slots) ≤ o.size → IsSettled slots.start (slots_size (place_of slots)) o → Knows slots o.view → next ≡ (slots.sequence + 1) % 3
@@ -55,6 +63,16 @@ begin V K slots body tail next o shown sound body_long some tail_long fits settl
       long = omega (arith, length-append (set body 0 next) tail, stays, body_long, tail_long);
       number = get_or_append_left (set body 0 next) tail 0 0 (omega (arith, stays, some_byte)) ∙ get_or-set_same body 0 next 0 some_byte ∙ is_next;
     }
+
+-- The range of the first write is in the older slot.
+
+pub closing_from : (opened : Bool) (gate : ℕ) → gate ≤ closing_at opened gate
+closing_from true gate = omega arith
+closing_from false gate = omega arith
+
+pub closing_to : (opened : Bool) (gate : ℕ) → closing_at opened gate + closing_long opened ≤ gate + 1024
+closing_to true gate = omega arith
+closing_to false gate = omega arith
 
 module _ (V K : Type 0) (slots : Slots) (new : List ℕ) (o : Outside) (begins : Begins V K slots new o) where
   abbrev p : Place
@@ -96,8 +114,8 @@ module _ (V K : Type 0) (slots : Slots) (new : List ℕ) (o : Outside) (begins :
 
   -- the older gate is closed, or the older body's first block is written
   pub closing : (content : List ℕ) (m : Outside) → newest_content p o.view ≡ Some content → LeavesElsewhere (closing_at slots.older_open (older_of slots)) (closing_long slots.older_open) o m
-      → Leaves (OldOrNew slots content new) o m
-  closing content m stands run = leaves_weaker (FromNow (closing_at slots.older_open (older_of slots)) (closing_long slots.older_open) o) (OldOrNew slots content new) o m
+      → Leaves (Switched slots content new o.view) o m
+  closing content m stands run = leaves_weaker (FromNow (closing_at slots.older_open (older_of slots)) (closing_long slots.older_open) o) (Switched slots content new o.view) o m
       (λ image from. let settled = begins.settled from.0 from.1 from.2 in
       let long : length from.0 ≡ length o.view = begins.sound.image_fills o.clock from.0 from.1 from.2 ∙ sym (begins.sound.view_fills begins.shown) in
       inl (is_old content stands image (while_closing (older_of slots) (newest_of slots) (content_size p) o.view new (gates_apart p slots.newest slots.is_slot) enough older_fits begins.knows.newest begins.long number_is
@@ -111,8 +129,8 @@ module _ (V K : Type 0) (slots : Slots) (new : List ℕ) (o : Outside) (begins :
       slots.older_open view begins.knows.open_only same zero_byte
 
   -- the older slot is filled
-  pub filling : (content : List ℕ) (m e : Outside) → newest_content p o.view ≡ Some content → Shut slots o.view m.view → IsAllSettled m → LeavesElsewhere (older_of slots + 512) (content_size p) m e → Leaves (OldOrNew slots content new) m e
-  filling content m e stands shut settled run = leaves_weaker (FromNow (older_of slots + 512) (content_size p) m) (OldOrNew slots content new) m e
+  pub filling : (content : List ℕ) (m e : Outside) → newest_content p o.view ≡ Some content → Shut slots o.view m.view → IsAllSettled m → LeavesElsewhere (older_of slots + 512) (content_size p) m e → Leaves (Switched slots content new o.view) m e
+  filling content m e stands shut settled run = leaves_weaker (FromNow (older_of slots + 512) (content_size p) m) (Switched slots content new o.view) m e
       (λ image from. let is_view : from.0 ≡ m.view = settled from.0 from.1 from.2 in
       inl (is_old content stands image (while_filling (older_of slots) (newest_of slots) (content_size p) o.view new (gates_apart p slots.newest slots.is_slot) enough older_fits begins.knows.newest begins.long number_is
       m.view image shut (subst (λ f. SameElsewhere (older_of slots + 512) (content_size p) f image) is_view from.3)))) run
@@ -120,13 +138,24 @@ module _ (V K : Type 0) (slots : Slots) (new : List ℕ) (o : Outside) (begins :
   pub fill_view : (before view : List ℕ) → Shut slots o.view before → view ≡ put (older_of slots + 512) new before → Filled slots o.view new view
   fill_view before view shut is = filled_view (older_of slots) (newest_of slots) (content_size p) o.view new (gates_apart p slots.newest slots.is_slot) enough older_fits begins.knows.newest begins.long number_is before view shut is
 
+  -- the first two steps write nothing around the slots
+  pub around : (before view : List ℕ) → SameElsewhere (closing_at slots.older_open (older_of slots)) (closing_long slots.older_open) o.view before
+      → SameElsewhere (older_of slots + 512) (content_size p) before view → SameElsewhere slots.start (slots_size p) o.view view
+  around before view closed filled = elsewhere_then slots.start (slots_size p) o.view before view
+      (elsewhere_wider (closing_at slots.older_open (older_of slots)) (closing_long slots.older_open) slots.start (slots_size p) o.view before
+      (omega (arith, older_in, closing_from slots.older_open (older_of slots))) (omega (arith, older_to, enough, closing_to slots.older_open (older_of slots))) closed)
+      (elsewhere_wider (older_of slots + 512) (content_size p) slots.start (slots_size p) before view (omega (arith, older_in)) (omega (arith, older_to)) filled)
+
   -- the older gate is opened
-  pub opening : (content : List ℕ) (m e : Outside) → newest_content p o.view ≡ Some content → Filled slots o.view new m.view → IsAllSettled m → LeavesElsewhere (older_of slots) 1 m e → Leaves (OldOrNew slots content new) m e
-  opening content m e stands filled settled run = leaves_weaker (FromNow (older_of slots) 1 m) (OldOrNew slots content new) m e
+  pub opening : (content : List ℕ) (m e : Outside) → newest_content p o.view ≡ Some content → Filled slots o.view new m.view → SameElsewhere slots.start (slots_size p) o.view m.view
+      → IsAllSettled m → LeavesElsewhere (older_of slots) 1 m e → Leaves (Switched slots content new o.view) m e
+  opening content m e stands filled beside settled run = leaves_weaker (FromNow (older_of slots) 1 m) (Switched slots content new o.view) m e
       (λ image from. let is_view : from.0 ≡ m.view = settled from.0 from.1 from.2 in
-      ⊎_elim (λ has. inl (is_old content stands image has)) (λ has. inr (is_new image has))
+      let same : SameElsewhere (older_of slots) 1 m.view image = subst (λ f. SameElsewhere (older_of slots) 1 f image) is_view from.3 in
+      let wide : SameElsewhere slots.start (slots_size p) m.view image = elsewhere_wider (older_of slots) 1 slots.start (slots_size p) m.view image older_in (omega (arith, older_to)) same in
+      ⊎_elim (λ has. inl (is_old content stands image has)) (λ has. inr (is_new image has, elsewhere_then slots.start (slots_size p) o.view m.view image beside wide))
       (while_opening (older_of slots) (newest_of slots) (content_size p) o.view new (gates_apart p slots.newest slots.is_slot) enough older_fits begins.knows.newest begins.long number_is
-      m.view image filled (subst (λ f. SameElsewhere (older_of slots) 1 f image) is_view from.3))) run
+      m.view image filled same)) run
 
   -- and so does the view, where a step failed
   pub closing_shows : (content view : List ℕ) → newest_content p o.view ≡ Some content → SameElsewhere (closing_at slots.older_open (older_of slots)) (closing_long slots.older_open) o.view view → OldOrNew slots content new view
@@ -167,13 +196,3 @@ module _ (V K : Type 0) (slots : Slots) (new : List ℕ) (o : Outside) (begins :
       let still : byte (put (older_of slots) (165 ∷ []) before) (newest_of slots) ≡ byte before (newest_of slots) =
       ⊎_elim (λ h. same.above (newest_of slots) (omega (arith, h))) (λ h. same.below (newest_of slots) (omega (arith, h))) (gates_apart p slots.newest slots.is_slot) in
       ap (λ (i : List ℕ). byte i (newest_of slots)) is ∙ still ∙ filled.shut.same (newest_of slots) (omega arith) (omega arith) ∙ begins.knows.newest.opened
-
--- The range of the first write is in the older slot.
-
-pub closing_from : (opened : Bool) (gate : ℕ) → gate ≤ closing_at opened gate
-closing_from true gate = omega arith
-closing_from false gate = omega arith
-
-pub closing_to : (opened : Bool) (gate : ℕ) → closing_at opened gate + closing_long opened ≤ gate + 1024
-closing_to true gate = omega arith
-closing_to false gate = omega arith

@@ -1,5 +1,5 @@
 -- Two slots in one place, of which the newest counts.
-use Rattle.std.specs.Prelude.{◌≡◌, ℕ, ◌+◌, ◌*◌, ◌-◌, ◌%◌, ◌≤◌, ◌==◌, List, Option, Some, None, option_map, if◌then◌else◌}
+use Rattle.std.specs.Prelude.{◌≡◌, ℕ, ◌+◌, ◌*◌, ◌%◌, ◌≤◌, ◌==◌, List, Option, Some, None, option_map, if◌then◌else◌}
 use Rattle.apex_model.specs.Image.{Slot, closed, numbered, newest}
 use Rattle.rig_core.specs.Bytes.{byte, part}
 

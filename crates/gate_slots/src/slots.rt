@@ -131,6 +131,14 @@ impl Slots {
         }
     }
 
+    /// The number of the newest slot, once one was found or committed.
+    pub fn newest(&self) -> u8
+        ensures low { result ≤ 1 }
+        ensures slot { (image : List ℕ) → Knows self.now image → newest_slot (place_of self.now) image ≡ Some result }
+    {
+        self.newest
+    }
+
     fn gate(&self, slot: u8) -> u64
         requires { (place_of self.now).start + slots_size (place_of self.now) < 2 ^ 64 }
         ensures { result ≡ gate_of (place_of self.now) slot }
@@ -208,6 +216,11 @@ impl Slots {
         // At every moment the newest content is the old one or the new one.
         ensures any_moment { (content : List ℕ) → R.tells_view → newest_content (place_of self.old) (R.state rig.old).view ≡ Some content
             → Leaves (λ image. (newest_content (place_of self.old) image ≡ Some content) ⊎ (newest_content (place_of self.old) image ≡ Some (body.new ++ tail.now)))
+            (R.state rig.old) (R.state rig.new) }
+        // Where it is the new one, the bytes around the slots are those that reads gave before, and settled.
+        ensures switched { (content : List ℕ) → R.tells_view → newest_content (place_of self.old) (R.state rig.old).view ≡ Some content
+            → Leaves (λ image. (newest_content (place_of self.old) image ≡ Some content)
+            ⊎ ((newest_content (place_of self.old) image ≡ Some (body.new ++ tail.now)) × SameElsewhere (place_of self.old).start (slots_size (place_of self.old)) (R.state rig.old).view image))
             (R.state rig.old) (R.state rig.new) }
         ensures shown { (content : List ℕ) → R.tells_view → newest_content (place_of self.old) (R.state rig.old).view ≡ Some content
             → (newest_content (place_of self.old) (R.state rig.new).view ≡ Some content) ⊎ (newest_content (place_of self.old) (R.state rig.new).view ≡ Some (body.new ++ tail.now)) }

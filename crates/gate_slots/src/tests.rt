@@ -82,17 +82,18 @@ fn two_slots(alloc: Global, older_open: bool) -> Result<Vec<u8>, Fail> {
     Ok(image)
 }
 
-// The newest slot, with sevens committed behind it.
-fn renewed<R: Rig>(rig: &mut R) -> Result<Option<u8>, DeviceFault>
+// The newest slot as it was found, and behind a commit of sevens.
+fn renewed<R: Rig>(rig: &mut R) -> Result<Option<(u8, u8)>, DeviceFault>
     requires fits { 3584 ≤ (R.state rig.old).size }
     requires settled { IsAllSettled (R.state rig.old) }
 {
     let mut slots = Slots::new(512, 1, 1);
-    let Some(slot) = slots.find(rig)? else {
+    if slots.find(rig)?.is_none() {
         return Ok(None);
-    };
+    }
+    let found = slots.newest();
     slots.commit(rig, &mut [7; 512], &[7; 512])?;
-    Ok(Some(slot))
+    Ok(Some((found, slots.newest())))
 }
 
 // Whether the newest slot has these bytes behind its sequence number.
@@ -115,7 +116,7 @@ fn cuts_leave_old_or_new(rt: &impl Abort, alloc: Global, older_open: bool) -> Re
     list.extend(&image)?;
     let mut rig = MemRig::new(alloc, list, FailList::new(alloc), 16)?;
     assert_eq!(rt; rig.size(), 3584);
-    assert_eq!(rt; renewed(&mut rig)?, Some(0));
+    assert_eq!(rt; renewed(&mut rig)?, Some((0, 1)));
     assert_eq!(rt; rig.made(CallKind::Write), 4);
     assert_eq!(rt; rig.made(CallKind::Sync), 3);
     let records = rig.records();
@@ -162,11 +163,11 @@ fn the_newest_slot_is_told_by_gates_and_numbers(rt: HostRuntime) -> Result<(), F
         list.extend(&image)?;
         let mut rig = MemRig::new(alloc, list, FailList::new(alloc), 4)?;
         assert_eq!(rt; rig.size(), 2048);
-        assert_eq!(rt;
-            Slots::new(0, 1, 0).find(&mut rig)?,
-            want,
-            "{first} and {second}"
-        );
+        let mut slots = Slots::new(0, 1, 0);
+        assert_eq!(rt; slots.find(&mut rig)?, want, "{first} and {second}");
+        if let Some(slot) = want {
+            assert_eq!(rt; slots.newest(), slot, "{first} and {second}");
+        }
     }
     Ok(())
 }
