@@ -7,7 +7,7 @@ ghost use Rattle.rig_core.specs.Outside.{OnlyReads};
 ghost use Rattle.meta_journal.specs.Journal.{first_of, held_of, room_of, Knows, FindsRoom};
 ghost use Rattle.meta_journal.specs.Leading.{records};
 ghost use Rattle.journal_replay.specs.Laws.{ReplayAgreesWithImage};
-ghost use Rattle.journal_replay.specs.Replay.{replayed, IsReplayed};
+ghost use Rattle.journal_replay.specs.Replay.{replayed, IsReplayed, KeepsStored};
 
 use file_tree::Tree;
 use image_format::record_at;
@@ -26,6 +26,11 @@ pub fn replay<R: Rig>(
     requires unread { held_of journal.old ≡ 0 }
     requires fits { first_of journal.old + 32768 ≤ (R.state rig.old).size }
     ensures replayed { R.tells_view → IfOk result (λ all. IsReplayed (replayed version (Some tree.old) (records (first_of journal.old) (R.state rig.old).view)) tree.new all) }
+    // The tree keeps an entry for each that it had.
+    ensures files { length tree.new.files ≡ length tree.old.files }
+    ensures directories { length tree.new.directories ≡ length tree.old.directories }
+    // What is stored of a file stays, or goes with the file.
+    ensures stored { KeepsStored tree.old tree.new }
     ensures first { first_of journal.new ≡ first_of journal.old }
     // After true the journal knows its records and its room.
     ensures held { R.tells_view → IfOk result (λ all. MatchBool all (held_of journal.new ≡ length (records (first_of journal.old) (R.state rig.old).view)) (Unit {0})) }

@@ -1,3 +1,5 @@
+pub mod Contained
+pub mod GoodNumbers
 pub mod JournalRoom
 pub mod Lists
 pub mod Marking
@@ -7,4 +9,6 @@ pub mod Overlaid
 pub mod Places
 pub mod ReadEntries
 pub mod Replaying
+pub mod StoredSizes
+pub mod TableNumbers
 pub mod Tables

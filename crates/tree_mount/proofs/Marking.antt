@@ -54,7 +54,7 @@ is-turned m n = elim (cases_eq m n) [
 
 -- ---- one mark
 
-mark-is : (used : List Bool) (n m : ℕ) → 1 ≤ n → n ≤ length used → 1 ≤ m → is_used (with_mark used n true) m ≡ (is_used used m || (n == m))
+pub mark-is : (used : List Bool) (n m : ℕ) → 1 ≤ n → n ≤ length used → 1 ≤ m → is_used (with_mark used n true) m ≡ (is_used used m || (n == m))
 mark-is used n m one room some = elim (cases_eq n m) [
   | inl e ↦
       ap (λ (k : ℕ). get_or (set used (n - 1) true) (k - 1) false) (sym e)

@@ -16,7 +16,7 @@ use Rattle.tree_mount.specs.Bodies.{if_tree, HasBody, IsBody}
 use Rattle.tree_mount.specs.Region.{tree_over, region_at, data_of, slots_at, body_of, journal_of}
 use Rattle.tree_mount.proofs.Overlaid.{tree-is}
 use Rattle.tree_mount.proofs.Places.{slot-low, some-newest, data-long, body-there, records-there, version-there}
-use Rattle.tree_mount.proofs.Replaying.{replayed-none, replayed-some, replayed-long}
+use Rattle.tree_mount.proofs.Replaying.{replayed-none, replayed-some}
 
 module _ (version : ℕ) (recs : List (List ℕ)) where
   abbrev after_tree : Entries → Option (Tree StoredFile) → Option (Tree StoredFile)
@@ -79,12 +79,6 @@ module _ (row : TreeRow) (at : ℕ) (image : List ℕ) (fits : at + 512 * tree_b
         ap tree-by has.header
         ∙ ap (after_entries kept.version recs) has.spelled
         ∙ ap (after_tree kept.version recs has.entries) has.read.made
-
-    -- there are as many names as the row has entries
-    pub good-long : (w : TreeValue) → replay.replayed kept.version (Some kept.tree) recs ≡ Some w → (length w.files ≡ row.files) × (length w.directories ≡ row.directories)
-    good-long w some =
-        let long = replayed-long blocks kept.table.files.items kept.version recs has.entries kept.tree has.read (omega (arith, files, few_files)) (omega (arith, directories, few_directories)) w some in
-        (long.0 ∙ files, long.1 ∙ directories)
 
     -- a record that is not spelled or does not apply
     pub bad-records : replay.replayed kept.version (Some kept.tree) recs ≡ None → tree_of_region row (region_at row at image) ≡ None

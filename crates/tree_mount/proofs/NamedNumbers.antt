@@ -1,8 +1,7 @@
 -- The numbers that the newest slot's files have after its records are among those of its body.
-use Rattle.std.proofs.Common.{◌≡◌, ℕ, zero, suc, ◌+◌, ◌*◌, ◌≤◌, ◌⊎◌, inl, inr, Bool, true, false, cond, ◌||◌, ◌==◌, List, [], ◌∷◌, ◌++◌, length, take, drop, refl, ap, subst, ◌∙◌, Option, Some, None, arith}
-use Rattle.std.proofs.lemmas.Bool.{eq-eqb}
+use Rattle.std.proofs.Common.{◌≡◌, ℕ, zero, suc, ◌+◌, ◌*◌, ◌≤◌, inl, inr, Bool, true, false, cond, List, [], ◌∷◌, ◌++◌, length, take, drop, refl, sym, ap, subst, ◌∙◌, Option, Some, None}
 use Rattle.std.specs.Prelude.{Contains, option_map, flat_map}
-use Rattle.std.specs.List.{list_any, range_with_len}
+use Rattle.std.specs.List.{range_with_len}
 use Rattle.apex_types.specs.declared.fields.FileEntryField.{FileEntryField}
 use Rattle.apex_types.specs.declared.fields.FileEntryField.TheVariants.{Unused, Used}
 use Rattle.apex_types.specs.declared.rows.TreeRow.{TreeRow}
@@ -20,54 +19,9 @@ use Rattle.file_tree.proofs.ReadBodies.{mapped}
 use Rattle.file_tree.proofs.Ways.{not_some}
 use Rattle.tree_mount.specs.Numbers.{AreUsed, numbers_in, rest_of}
 use Rattle.tree_mount.specs.Region.{region_at, slots_at, body_of, journal_of}
+use Rattle.tree_mount.proofs.Contained.{none-in, in-either, in-left, in-right, from-take, from-drop, any-in}
 use Rattle.tree_mount.proofs.Places.{newest-there, slot-low, body-there, records-there}
-use Rattle.tree_mount.proofs.Replaying.{none-replayed, all-replayed}
-
--- ---- numbers in lists
-
-none-in : (n : ℕ) → Contains [] n → ⊥
-none-in n there = omega (arith, there.1)
-
-first-or-rest : (x : ℕ) (xs : List ℕ) (n : ℕ) → Contains (x ∷ xs) n → (x ≡ n) ⊎ Contains xs n
-first-or-rest x xs n (zero, less, is) = inl is
-first-or-rest x xs n (suc k, less, is) = inr (k, omega (arith, less), is)
-
-behind : (x : ℕ) (xs : List ℕ) (n : ℕ) → Contains xs n → Contains (x ∷ xs) n
-behind x xs n there = (suc there.0, omega (arith, there.1), there.2)
-
-in-either : (xs ys : List ℕ) (n : ℕ) → Contains (xs ++ ys) n → Contains xs n ⊎ Contains ys n
-in-either [] ys n there = inr there
-in-either (x ∷ xs) ys n there = elim (first-or-rest x (xs ++ ys) n there) [
-  | inl e ↦ inl (0, omega arith, e)
-  | inr rest ↦ elim (in-either xs ys n rest) [
-    | inl a ↦ inl (behind x xs n a)
-    | inr b ↦ inr b
-  ]
-]
-
-from-take : (k : ℕ) (xs : List ℕ) (n : ℕ) → Contains (take k xs) n → Contains xs n
-from-take zero xs n there = absurd (none-in n there)
-from-take (suc k) [] n there = there
-from-take (suc k) (x ∷ xs) n there = elim (first-or-rest x (take k xs) n there) [
-  | inl e ↦ (0, omega arith, e)
-  | inr rest ↦ behind x xs n (from-take k xs n rest)
-]
-
-from-drop : (k : ℕ) (xs : List ℕ) (n : ℕ) → Contains (drop k xs) n → Contains xs n
-from-drop zero xs n there = there
-from-drop (suc k) [] n there = there
-from-drop (suc k) (x ∷ xs) n there = behind x xs n (from-drop k xs n there)
-
-or-true : (a : Bool) → (a || true) ≡ true
-or-true true = refl
-or-true false = refl
-
-any-in : (xs : List ℕ) (n : ℕ) → Contains xs n → list_any (λ other. other == n) xs ≡ true
-any-in [] n there = absurd (none-in n there)
-any-in (x ∷ xs) n there = elim (first-or-rest x xs n there) [
-  | inl e ↦ ap (λ b. b || list_any (λ other. other == n) xs) (eq-eqb x n e)
-  | inr rest ↦ ap (λ b. (x == n) || b) (any-in xs n rest) ∙ or-true (x == n)
-]
+use Rattle.tree_mount.proofs.Replaying.{none-replayed, all-replayed, replayed-append}
 
 -- ---- the numbers of files
 
@@ -89,6 +43,17 @@ module _ (numbers : List ℕ) where
       subst (λ (e : Entry). AreAmong 0 e.stored) same (λ n there. sub n (from-take (blocks_of size) own n there))
   listed-among own sub (Used name parent size changes ∷ fields) (suc f) entry h =
       listed-among (drop (blocks_of size) own) (λ n there. sub n (from-drop (blocks_of size) own n there)) fields f entry h
+
+  -- those of files are among these, if all are
+  own-among : (files : List (Option Entry)) → ((n : ℕ) → Contains (flat_map numbers_of_entry files) n → Contains numbers n) → AllAmong files
+  own-among [] sub f entry h = absurd (not_some h)
+  own-among (None ∷ files) sub zero entry h = absurd (not_some h)
+  own-among (None ∷ files) sub (suc f) entry h = own-among files sub f entry h
+  own-among (Some first ∷ files) sub zero entry h =
+      let same : first ≡ entry = cc in
+      subst (λ (e : Entry). AreAmong 0 e.stored) same (λ n there. sub n (in-left (drop 1 first.stored.content) (flat_map numbers_of_entry files) n there))
+  own-among (Some first ∷ files) sub (suc f) entry h =
+      own-among files (λ n there. sub n (in-right (drop 1 first.stored.content) (flat_map numbers_of_entry files) n there)) f entry h
 
   files-among : (files : List (Option Entry)) → AllAmong files → (n : ℕ) → Contains (flat_map numbers_of_entry files) n → Contains numbers n
   files-among [] has n there = absurd (none-in n there)
@@ -139,6 +104,30 @@ module _ (row : TreeRow) (body : List ℕ) where
               ]) refl there
         ]) refl
 
+-- ---- one more record
+
+module _ (version : ℕ) (one : List ℕ) (n : ℕ) where
+  fewer : (o : Option Entries) → Contains (numbers_of (replayed version (one ∷ []) o)) n → Contains (numbers_of o) n
+  fewer None there = absurd (none-in n (subst (λ (o : Option Entries). Contains (numbers_of o) n) (none-replayed version (one ∷ [])) there))
+  fewer (Some entries) there =
+      let own : List ℕ = flat_map numbers_of_entry entries.files in
+      (elim (replayed version (one ∷ []) (Some entries)) as (λ o. replayed version (one ∷ []) (Some entries) ≡ o → Contains (numbers_of o) n → Contains own n) [
+        | None ↦ λ gone k. absurd (none-in n k)
+        | Some after ↦ λ made k.
+            files-among own after.files
+            (all-replayed (AreAmong own) (λ k m wrong. absurd (none-in m wrong)) version (one ∷ []) entries after (own-among own entries.files (λ m its. its)) made) n k
+      ]) refl there
+
+-- the numbers that a body and its records name
+abbrev names-by : TreeRow → Option (ℕ × ℕ) → List ℕ → List (List ℕ) → List ℕ
+names-by row header bytes rs = elim header [ None ↦ [] | Some h ↦ numbers_of (replayed h.1 rs (listed_of_body h.1 row bytes)) ]
+
+one-more : (row : TreeRow) (header : Option (ℕ × ℕ)) (bytes : List ℕ) (rs : List (List ℕ)) (one : List ℕ) (n : ℕ) → Contains (names-by row header bytes (rs ++ one ∷ [])) n → Contains (names-by row header bytes rs) n
+one-more row None bytes rs one n there = there
+one-more row (Some h) bytes rs one n there =
+    fewer h.1 one n (replayed h.1 rs (listed_of_body h.1 row bytes))
+    (subst (λ (o : Option Entries). Contains (numbers_of o) n) (replayed-append h.1 rs (one ∷ []) (listed_of_body h.1 row bytes)) there)
+
 -- ---- the region
 
 module _ (row : TreeRow) (at : ℕ) (image : List ℕ) (fits : at + 512 * tree_blocks row ≤ length image) (slot : ℕ) (newest : newest_slot (slots_at row at) image ≡ Some slot) where
@@ -148,21 +137,43 @@ module _ (row : TreeRow) (at : ℕ) (image : List ℕ) (fits : at + 512 * tree_b
   abbrev recs : List (List ℕ)
   recs = records (journal_of row at slot) image
 
-  abbrev names-by : Option (ℕ × ℕ) → List ℕ → List (List ℕ) → List ℕ
-  names-by header bytes rs = elim header [ None ↦ [] | Some h ↦ numbers_of (replayed h.1 rs (listed_of_body h.1 row bytes)) ]
-
-  names-are : named_blocks row (region_at row at image) ≡ names-by (header_of (take 64 body)) body recs
+  names-are : named_blocks row (region_at row at image) ≡ names-by row (header_of (take 64 body)) body recs
   unfolding named_blocks
   names-are =
       let low = slot-low row at image fits slot newest in
       ap (λ (o : Option ℕ). elim o [ None ↦ [] | Some s ↦ named_in_slot row (region_at row at image) (s * slot_blocks row) ]) (newest-there row at image fits ∙ newest)
-      ∙ (λ i. names-by (header_of (take 64 (body-there row at image fits slot low i))) (body-there row at image fits slot low i) (records-there row at image fits slot low i))
+      ∙ (λ i. names-by row (header_of (take 64 (body-there row at image fits slot low i))) (body-there row at image fits slot low i) (records-there row at image fits slot low i))
 
-  by-header : (header : Option (ℕ × ℕ)) (n : ℕ) → Contains (names-by header body recs) n → Contains (numbers_in row body) n
+  by-header : (header : Option (ℕ × ℕ)) (n : ℕ) → Contains (names-by row header body recs) n → Contains (numbers_in row body) n
   by-header None n there = absurd (none-in n there)
   by-header (Some h) n there = names-among row body h.1 recs n there
+
+  -- what the region names is among the numbers of its body
+  pub named-in : (n : ℕ) → Contains (named_blocks row (region_at row at image)) n → Contains (numbers_in row body) n
+  named-in n there = by-header (header_of (take 64 body)) n (subst (λ (ns : List ℕ). Contains ns n) names-are there)
 
   -- a named block is used
   pub named-used : (used : List Bool) → AreUsed row.quota (numbers_in row body) used → (n : ℕ) → Contains (named_blocks row (region_at row at image)) n → 1 ≤ n → n ≤ 2 * row.quota → is_used used n ≡ true
   named-used used are n there one few =
-      are.named n one few ∙ any-in (numbers_in row body) n (by-header (header_of (take 64 body)) n (subst (λ (ns : List ℕ). Contains ns n) names-are there))
+      are.named n one few ∙ any-in (numbers_in row body) n (named-in n there)
+
+-- ---- two images
+
+module _ (row : TreeRow) (at slot : ℕ) (a b : List ℕ) (fits-a : at + 512 * tree_blocks row ≤ length a) (fits-b : at + 512 * tree_blocks row ≤ length b)
+    (newest-a : newest_slot (slots_at row at) a ≡ Some slot) (newest-b : newest_slot (slots_at row at) b ≡ Some slot) (body-same : body_of row at slot b ≡ body_of row at slot a) where
+  -- with the same body and records they name the same blocks
+  pub names-stay : records (journal_of row at slot) b ≡ records (journal_of row at slot) a → named_blocks row (region_at row at b) ≡ named_blocks row (region_at row at a)
+  names-stay same =
+      names-are row at b fits-b slot newest-b
+      ∙ (λ i. names-by row (header_of (take 64 (body-same i))) (body-same i) (same i))
+      ∙ sym (names-are row at a fits-a slot newest-a)
+
+  -- with one more record the second names no other blocks
+  pub names-fewer : (one : List ℕ) → records (journal_of row at slot) b ≡ records (journal_of row at slot) a ++ one ∷ []
+      → (n : ℕ) → Contains (named_blocks row (region_at row at b)) n → Contains (named_blocks row (region_at row at a)) n
+  names-fewer one more n there =
+      let before = body_of row at slot a in
+      let now : named_blocks row (region_at row at b) ≡ names-by row (header_of (take 64 before)) before (records (journal_of row at slot) a ++ one ∷ [])
+      = names-are row at b fits-b slot newest-b ∙ (λ i. names-by row (header_of (take 64 (body-same i))) (body-same i) (more i)) in
+      subst (λ (ns : List ℕ). Contains ns n) (sym (names-are row at a fits-a slot newest-a))
+      (one-more row (header_of (take 64 before)) before (records (journal_of row at slot) a) one n (subst (λ (ns : List ℕ). Contains ns n) now there))

@@ -59,7 +59,7 @@ module _ (version : ℕ) (row : TreeRow) (body blocks : List ℕ) where
   behind-is fields h = ap (λ (o : Option (List FileEntryField)). elim o [ None ↦ None | Some files ↦ behind_files files ]) h
 
   -- they are those of the fields
-  files-are : (fields : List FileEntryField) (entries : image.Entries) → fields_in version body row.files ≡ Some fields → image.entries_of_body version row body blocks ≡ Some entries
+  pub files-are : (fields : List FileEntryField) (entries : image.Entries) → fields_in version body row.files ≡ Some fields → image.entries_of_body version row body blocks ≡ Some entries
       → image.file_entries blocks (numbers_in row body) fields ≡ entries.files
   files-are fields entries spelled h =
       (elim (image.all_answers (λ k. entry_of_bytes version (image.entry_bytes body k)) (range_with_len row.files row.directories)) as (λ o. elim o [

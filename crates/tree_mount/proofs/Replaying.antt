@@ -1,5 +1,5 @@
 -- Records leave each file the content of its blocks.
-use Rattle.std.proofs.Common.{◌≡◌, ℕ, zero, suc, ◌≤◌, ◌⊎◌, inl, inr, Bool, true, false, cond, ◌&&◌, List, [], ◌∷◌, length, set, refl, sym, ap, subst, ◌∙◌, Option, Some, None, arith}
+use Rattle.std.proofs.Common.{◌≡◌, ℕ, zero, suc, ◌≤◌, ◌⊎◌, inl, inr, Bool, true, false, cond, ◌&&◌, List, [], ◌∷◌, ◌++◌, length, set, refl, sym, ap, subst, ◌∙◌, Option, Some, None, arith}
 use Rattle.std.proofs.lemmas.List.{length-map}
 use Rattle.std.specs.Prelude.{option_map, slice_get, slice_set, slice_index_or, bytes_eq, ◌==◌}
 use Rattle.std.specs.Option.{option_flatten}
@@ -138,6 +138,11 @@ module _ (P : ℕ → StoredFile → Type 0) (empty-is : (k : ℕ) → P k (reco
             ]) refl k
       ]) h
 
+-- the first records, and then the others
+pub replayed-append : (version : ℕ) (xs ys : List (List ℕ)) (o : Option image.Entries) → image.replayed version (xs ++ ys) o ≡ image.replayed version ys (image.replayed version xs o)
+replayed-append version [] ys o = refl
+replayed-append version (x ∷ xs) ys o = replayed-append version xs ys (elim o [ None ↦ None | Some e ↦ elim (record_of version x) [ None ↦ None | Some change ↦ image.applied e change ] ])
+
 -- as many entries as before, which make a tree
 pub record AreMade (files directories : ℕ) (entries : image.Entries) : Type 0 where
   pub tree : Tree StoredFile
@@ -194,10 +199,3 @@ module _ (blocks : List ℕ) (numbers : List (List ℕ)) (version : ℕ) (record
       let made = after-made m.0 m.1 in
       let contents = all-replayed (λ f stored. stored.content ≡ image.joined blocks (slice_index_or numbers f []) (length stored.content)) (λ f. refl) version records entries m.0 has.contents m.1 in
       (m.0, m.1, record { tree = made.tree; made = made.made; names = m.2; contents = contents })
-
-  -- there are as many entries as before
-  pub replayed-long : (w : TreeValue) → replay.replayed version (Some v) records ≡ Some w → (length w.files ≡ length v.files) × (length w.directories ≡ length v.directories)
-  replayed-long w h =
-      let m = mapped names_of (image.replayed version records (Some entries)) w (sym agrees ∙ h) in
-      let made = after-made m.0 m.1 in
-      (files-long m.0 w m.2 ∙ made.files_long ∙ sym (files-long entries v has.names), directories-long m.0 w m.2 ∙ made.directories_long ∙ sym (directories-long entries v has.names))

@@ -89,7 +89,7 @@ module _ (row : TreeRow) (fields : List FileEntryField) (numbers rest : List ℕ
   good-from (Ok o) h = good-marked o h
   good-from (Err e) h = h
 
-le-holds : (m n : ℕ) → nat_le m n ≡ true → m ≤ n
+pub le-holds : (m n : ℕ) → nat_le m n ≡ true → m ≤ n
 le-holds m n h = grind (arith, nat_tests)
 
 -- good files have no more blocks than there are numbers
@@ -102,6 +102,14 @@ good-room row fields numbers rest many good =
     let two : (A && B) ≡ true = and-first (A && B) C three in
     let within : block_sum fields ≤ row.quota = le-holds _ _ (and-second A B two) in
     omega (arith, within, many)
+
+-- good numbers are within twice the quota
+pub good-numbers : (row : TreeRow) (fields : List FileEntryField) (numbers rest : List ℕ) → has_good_blocks row fields numbers rest ≡ true → list_all (λ n. nat_le n (2 * row.quota)) numbers ≡ true
+good-numbers row fields numbers rest good =
+    let A = list_all (λ field. nat_le (size_of_field field) 1048576) fields in
+    let B = nat_le (block_sum fields) row.quota in
+    let C = list_all (λ n. nat_le n (2 * row.quota)) numbers in
+    and-second (A && B) C (and-first _ _ (and-first _ _ (and-first _ _ good)))
 
 -- each file has a list
 pub lists-long : (room : ℕ) (fields : List FileEntryField) (numbers : List ℕ) → length (numbers_by_file room fields numbers) ≡ length fields

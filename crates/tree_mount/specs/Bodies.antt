@@ -1,5 +1,5 @@
 -- The names and the block numbers that a slot's body stands for.
-use Rattle.std.specs.Prelude.{◌≡◌, ℕ, ◌*◌, ◌<◌, List, [], length, take, Option, Some, None, slice_index_or}
+use Rattle.std.specs.Prelude.{◌≡◌, ℕ, ◌*◌, List, [], length, take, Option, Some, None, slice_index_or}
 use Rattle.apex_types.specs.declared.rows.TreeRow.{TreeRow}
 use Rattle.apex_model.specs.Durable.{StoredFile}
 use Rattle.apex_model.specs.Fields.{header_of}
@@ -7,7 +7,7 @@ use Rattle.apex_model.specs.Image.{Entry, Entries, tree_of_entries, entries_of_b
 use Rattle.apex_model.specs.Trees.{Tree}
 use Rattle.file_tree.specs.Entries.{TreeValue, slot}
 use Rattle.file_tree.specs.Images.{names_of}
-use Rattle.tree_mount.specs.Numbers.{AreUsed, most_blocks, numbers_in}
+use Rattle.tree_mount.specs.Numbers.{AreUsed, numbers_in}
 use Rattle.tree_mount.specs.declared.body.SlotBody.{SlotBody}
 
 -- the entries that make a tree
@@ -41,5 +41,3 @@ pub record HasBody (row : TreeRow) (bytes blocks : List ℕ) (body : SlotBody) :
 abbrev pub IsBody : TreeRow → List ℕ → Option SlotBody → Type 0
 IsBody row bytes None = (blocks : List ℕ) → length blocks ≡ 1024 * row.quota → entries_in_body row bytes blocks ≡ None
 IsBody row bytes (Some body) = ((blocks : List ℕ) → length blocks ≡ 1024 * row.quota → HasBody row bytes blocks body) × AreUsed row.quota (numbers_in row bytes) body.table.used
-    × (length body.table.files.items ≡ row.files)
-    × ((f : ℕ) → f < row.files → length (slice_index_or body.table.files.items f []) ≡ most_blocks row)

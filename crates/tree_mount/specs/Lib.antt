@@ -1,4 +1,5 @@
 pub mod Bodies
+pub mod GoodNumbers
 pub mod Marks
 pub mod Numbers
 pub mod Region

@@ -1,5 +1,5 @@
 -- The numbers of data blocks in a slot's body: which file has which, and which blocks are used.
-use Rattle.std.specs.Prelude.{◌≡◌, ℕ, ◌+◌, ◌-◌, ◌*◌, ◌≤◌, ◌==◌, ◌++◌, min, replicate, Bool, true, false, List, [], ◌∷◌, length, take, drop, map, Option, Some, None}
+use Rattle.std.specs.Prelude.{◌≡◌, ℕ, ◌+◌, ◌-◌, ◌*◌, ◌<◌, ◌≤◌, ◌==◌, ◌++◌, min, replicate, Bool, true, false, List, [], ◌∷◌, length, take, drop, map, Option, Some, None, slice_index_or}
 use Rattle.std.specs.List.{list_any, range_with_len}
 use Rattle.apex_types.specs.declared.fields.FileEntryField.{FileEntryField}
 use Rattle.apex_model.specs.Fields.{entry_of_bytes}
@@ -65,3 +65,14 @@ pub record HasNoTable (version : ℕ) (row : TreeRow) (body : List ℕ) : Type 0
 abbrev pub IsTableOf : ℕ → TreeRow → List ℕ → Option BlockTable → Type 0
 IsTableOf version row body None = HasNoTable version row body
 IsTableOf version row body (Some table) = HasTable version row body table
+
+-- The table has a list for each file, with room for all blocks that it may have.
+pub record HasRooms (row : TreeRow) (table : BlockTable) : Type 0 where
+  pub files : length table.files.items ≡ row.files
+  pub rooms : (f : ℕ) → f < row.files → length (slice_index_or table.files.items f []) ≡ most_blocks row
+
+-- Each number in the table is 0 or one of a block, and its block is used.
+pub record HasNumbers (row : TreeRow) (table : BlockTable) : Type 0 where
+  pub marks : length table.used ≡ 2 * row.quota
+  pub within : (f k : ℕ) → slice_index_or (slice_index_or table.files.items f []) k 0 ≤ 2 * row.quota
+  pub numbers : (f k : ℕ) → 1 ≤ slice_index_or (slice_index_or table.files.items f []) k 0 → is_used table.used (slice_index_or (slice_index_or table.files.items f []) k 0) ≡ true

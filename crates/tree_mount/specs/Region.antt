@@ -70,22 +70,13 @@ Spells row body recs version v numbers = (blocks : List ℕ) → length blocks �
 -- What is kept stands for the region that begins at this byte of an image.
 pub record StandsFor (row : TreeRow) (at : ℕ) (image : List ℕ) (kept : TreeRegion) : Type 0 where
   pub tree : tree_of_region row (region_at row at image) ≡ Some (tree_over (data_of row (region_at row at image)) kept.tree kept.table.files.items)
-  -- with an entry for each that the row has
-  pub files : length kept.tree.files ≡ row.files
-  pub directories : length kept.tree.directories ≡ row.directories
-  pub table : length kept.table.files.items ≡ row.files
-  -- and room for all blocks of a file
-  pub rooms : (f : ℕ) → f < row.files → length (slice_index_or kept.table.files.items f []) ≡ most_blocks row
   -- which slot is newest, and what it spells with its records
   pub newest : ℕ
   pub is_newest : newest_slot (slots_at row at) image ≡ Some newest
   pub spells : Spells row (body_of row at newest image) (records (journal_of row at newest) image) kept.version kept.tree kept.table.files.items
-  pub place : slots.place_of kept.slots ≡ slots_at row at
   pub slots : slots.Knows kept.slots image
-  -- its version, and the blocks that its body names
+  -- its version, and the blocks of the files that its records leave
   pub version : byte image (gate_of (slots_at row at) newest + 513) ≡ kept.version
-  pub used : AreUsed row.quota (numbers_in row (body_of row at newest image)) kept.table.used
-  -- and with them those of the files that its records leave
   pub named : (n : ℕ) → Contains (named_blocks row (region_at row at image)) n → 1 ≤ n → n ≤ 2 * row.quota → is_used kept.table.used n ≡ true
   -- the leading records of its journal, and whether one more has room
   pub first : journal.first_of kept.journal ≡ journal_of row at newest
@@ -94,8 +85,20 @@ pub record StandsFor (row : TreeRow) (at : ℕ) (image : List ℕ) (kept : TreeR
   pub known : 0 < journal.room_of kept.journal → journal.Knows kept.journal image
   pub has_room : has_journal_room row (region_at row at image) ≡ ((kept.version == 2) && nat_lt 0 (journal.room_of kept.journal))
 
--- the journal that is kept is one of those of the region's slots
+-- The slots that are kept stand where the region has them, and the journal is one of theirs.
 pub record IsWithin (row : TreeRow) (at : ℕ) (kept : TreeRegion) : Type 0 where
+  pub place : slots.place_of kept.slots ≡ slots_at row at
   pub from : at ≤ journal.first_of kept.journal
   pub to : journal.first_of kept.journal + 32768 ≤ at + 512 * (2 * slot_blocks row)
   pub few : (row.files ≤ 255) × (row.directories ≤ 255)
+
+-- What is kept has an entry for each that the row has, and room for all blocks of a file.
+pub record HasLimits (row : TreeRow) (kept : TreeRegion) : Type 0 where
+  pub files : length kept.tree.files ≡ row.files
+  pub directories : length kept.tree.directories ≡ row.directories
+  pub table : length kept.table.files.items ≡ row.files
+  pub rooms : (f : ℕ) → f < row.files → length (slice_index_or kept.table.files.items f []) ≡ most_blocks row
+
+-- exactly those blocks are used that the newest slot's body names
+abbrev pub AreUsedByBody : TreeRow → ℕ → List ℕ → TreeRegion → Type 0
+AreUsedByBody row at image kept = (newest : ℕ) → newest_slot (slots_at row at) image ≡ Some newest → AreUsed row.quota (numbers_in row (body_of row at newest image)) kept.table.used

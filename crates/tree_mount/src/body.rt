@@ -2,6 +2,8 @@
 ghost use Rattle.std.specs.Prelude.{◌≡◌, ◌+◌, ◌*◌, ◌≤◌, length, IfOk, IfSome};
 ghost use Rattle.file_tree.specs.Entries.{no_entries};
 ghost use Rattle.tree_mount.specs.Bodies.{IsBody};
+ghost use Rattle.tree_mount.specs.GoodNumbers.{HasGoodNumbers};
+ghost use Rattle.tree_mount.specs.Numbers.{HasNumbers, HasRooms};
 
 use crate::table::{BlockTable, read_table};
 use apex_types::{OutOfMemory, TreeRow};
@@ -27,7 +29,7 @@ fn no_names(alloc: Global, files: u8, directories: u8) -> Result<Tree, OutOfMemo
 }
 
 /// Reads a slot's body. None comes exactly where its header, an entry, the tree that they make or what is spelled
-/// behind them is invalid.
+/// behind them is invalid. The block numbers that are read are good ones for the sizes that are read.
 pub fn read_slot_body(
     alloc: Global,
     row: &TreeRow,
@@ -35,6 +37,9 @@ pub fn read_slot_body(
 ) -> Result<Option<SlotBody>, OutOfMemory>
     requires { 64 + 128 * (row.now.files + row.now.directories) + 4 * row.now.quota ≤ length bytes.now }
     ensures body { IfOk result (IsBody row.now bytes.now) }
+    ensures rooms { IfOk result (λ body. IfSome body (λ b. HasRooms row.now b.table)) }
+    ensures numbers { IfOk result (λ body. IfSome body (λ b. HasNumbers row.now b.table)) }
+    ensures good { IfOk result (λ body. IfSome body (λ b. HasGoodNumbers row.now b.tree b.table.files.items)) }
     ensures files { IfOk result (λ body. IfSome body (λ b. (length b.tree.files ≡ row.now.files) × (row.now.files ≤ 255))) }
     ensures directories { IfOk result (λ body. IfSome body (λ b. (length b.tree.directories ≡ row.now.directories) × (row.now.directories ≤ 255))) }
 {

@@ -11,9 +11,11 @@ ghost use Rattle.gate_slots.specs.Slots.{place_of, slots_size, Knows};
 ghost use Rattle.meta_journal.specs.Journal.{first_of, held_of, room_of, FindsRoom};
 ghost use Rattle.meta_journal.specs.Journal.{Knows as KnowsJournal};
 ghost use Rattle.meta_journal.specs.Leading.{records};
-ghost use Rattle.journal_replay.specs.Replay.{replayed};
+ghost use Rattle.journal_replay.specs.Replay.{replayed, KeepsStored};
 ghost use Rattle.tree_mount.specs.Bodies.{IsBody};
-ghost use Rattle.tree_mount.specs.Region.{IsWithin, StandsFor, region_at, slots_at};
+ghost use Rattle.tree_mount.specs.GoodNumbers.{HasGoodNumbers};
+ghost use Rattle.tree_mount.specs.Numbers.{HasNumbers, HasRooms};
+ghost use Rattle.tree_mount.specs.Region.{AreUsedByBody, HasLimits, IsWithin, StandsFor, region_at, slots_at};
 
 use crate::body::{SlotBody, read_slot_body};
 use crate::region::TreeRegion;
@@ -92,6 +94,9 @@ fn read_body_at<R: Rig>(
     requires { at + 512 * body_blocks_of row.now ≤ (R.state rig.old).size }
     ensures body { R.tells_view → IfOk result (λ body. IsBody row.now (part at (512 * body_blocks_of row.now) (R.state rig.old).view) (Some body)) }
     ensures bad { R.tells_view → IsErrOf result MountStop.Bad → IsBody row.now (part at (512 * body_blocks_of row.now) (R.state rig.old).view) None }
+    ensures rooms { IfOk result (λ body. HasRooms row.now body.table) }
+    ensures numbers { IfOk result (λ body. HasNumbers row.now body.table) }
+    ensures good { IfOk result (λ body. HasGoodNumbers row.now body.tree body.table.files.items) }
     ensures files { IfOk result (λ body. (length body.tree.files ≡ row.now.files) × (row.now.files ≤ 255)) }
     ensures directories { IfOk result (λ body. (length body.tree.directories ≡ row.now.directories) × (row.now.directories ≤ 255)) }
     ensures reads { OnlyReads R.tells_view (R.state rig.old) (R.state rig.new) }
@@ -116,6 +121,9 @@ fn replay_all<R: Rig>(
     requires fits { first_of journal.old + 32768 ≤ (R.state rig.old).size }
     ensures replayed { R.tells_view → OnOk result (replayed version (Some tree.old) (records (first_of journal.old) (R.state rig.old).view) ≡ Some tree.new) }
     ensures bad { R.tells_view → IsErrOf result MountStop.Bad → replayed version (Some tree.old) (records (first_of journal.old) (R.state rig.old).view) ≡ None }
+    ensures files { length tree.new.files ≡ length tree.old.files }
+    ensures directories { length tree.new.directories ≡ length tree.old.directories }
+    ensures stored { KeepsStored tree.old tree.new }
     ensures first { first_of journal.new ≡ first_of journal.old }
     ensures held { R.tells_view → OnOk result (held_of journal.new ≡ length (records (first_of journal.old) (R.state rig.old).view)) }
     ensures room { R.tells_view → OnOk result (FindsRoom journal.new (R.state rig.old).view) }
@@ -142,8 +150,10 @@ fn slot_start(row: &TreeRow, at: u64, slot: u8) -> u64
     }
 }
 
-/// Mounts the region of a tree, which begins at a byte of the device. Only reads are made. It is bad exactly where
-/// the region stands for no tree; a fault comes only where the rig's read faults rose.
+/// Mounts the region of a tree, which begins at a byte of the device. Only reads are made. What is kept has as many
+/// entries as the row, and each block of its files is used; the used blocks are exactly those that the newest slot's
+/// body names. Whatever the device is, the block numbers that are kept are good ones for the sizes that are kept. The
+/// region is bad exactly where it stands for no tree; a fault comes only where the rig's read faults rose.
 pub fn mount<R: Rig>(
     alloc: Global,
     rig: &mut R,
@@ -153,6 +163,10 @@ pub fn mount<R: Rig>(
     requires { at + 512 * tree_blocks row.now ≤ (R.state rig.old).size }
     ensures stands { R.tells_view → IfOk result (StandsFor row.now at (R.state rig.old).view) }
     ensures within { IfOk result (IsWithin row.now at) }
+    ensures limits { IfOk result (HasLimits row.now) }
+    ensures numbers { IfOk result (λ kept. HasNumbers row.now kept.table) }
+    ensures good { IfOk result (λ kept. HasGoodNumbers row.now kept.tree kept.table.files.items) }
+    ensures used { R.tells_view → IfOk result (AreUsedByBody row.now at (R.state rig.old).view) }
     ensures bad { R.tells_view → IsErrOf result MountStop.Bad → tree_of_region row.now (region_at row.now at (R.state rig.old).view) ≡ None }
     ensures reads { OnlyReads R.tells_view (R.state rig.old) (R.state rig.new) }
     ensures cause { IsErrOf result MountStop.Device → Rose (R.state rig.old).read_faults (R.state rig.new).read_faults }

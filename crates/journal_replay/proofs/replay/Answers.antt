@@ -1,7 +1,9 @@
-use Rattle.std.proofs.Common.{rules, ◌≡◌, ◌+◌, ◌<◌, ◌≤◌, cond, Some, None, IsTrue, length, slice_get, sym, ap, subst, ◌∙◌, arith}
+use Rattle.std.proofs.Common.{rules, ◌≡◌, ◌+◌, ◌<◌, ◌≤◌, cond, Some, None, IsTrue, true, length, slice_get, sym, ap, subst, ◌∙◌, arith}
 use Rattle.apex_model.specs.Fields.{record_of}
 use Rattle.meta_journal.specs.Journal.{first_of, held_of, HasRead}
 use Rattle.meta_journal.specs.Leading.{records}
+use Rattle.journal_replay.proofs.Lengths.{made-long}
+use Rattle.journal_replay.proofs.Stored.{made-stored, stored-then}
 use Rattle.journal_replay.proofs.Records.{so_far-end, so_far-next, unspelled, unapplied, none-past}
 use Rattle.journal_replay.proofs.replay.Goals as goal
 
@@ -58,11 +60,14 @@ pub loop-preserved : goal.loop-preserved
 loop-preserved g c =
     let first = first_of c.args.journal.now in
     let view = (g.R.Rig.state c.args.rig.now).view in
+    let longs = made-long c.loop.tree c.apply.new.self c.in-Some.change true c.if-not-apply.ensures in
     let more : IsTrue c.in_ok-next.field-0 = c.if-not-branch.false in
     record {
       first = c.next.ensures.first ∙ c.loop.invariant.first;
       held = c.in_ok-next.ensures.held ∙ ap (λ b. held_of c.loop.journal + cond b 1 0) c.if-not-branch.false ∙ ap (λ n. n + 1) c.loop.invariant.held;
       reads = search rules;
+      long = record { files = longs.files ∙ c.loop.invariant.long.files; directories = longs.directories ∙ c.loop.invariant.long.directories };
+      stored = stored-then c.args.tree.now c.loop.tree c.apply.new.self c.loop.invariant.stored (made-stored c.loop.tree c.apply.new.self c.in-Some.change true c.if-not-apply.ensures);
       few = λ tells. let less : held_of c.loop.journal < 32 = ((c.in_ok-next.ensures.more tells).0 more).0 in omega (arith, less, c.loop.invariant.held);
       read = λ tells. let same = c.loop.invariant.reads.view tells in
           subst (HasRead c.next.new.self) same (c.in_ok-next.ensures.read tells (subst (HasRead c.loop.journal) (sym same) (c.loop.invariant.read tells)));

@@ -9,6 +9,8 @@ use Rattle.apex_model.specs.Fields.{entry_of_bytes}
 use Rattle.apex_model.specs.Image.{entry_bytes}
 use Rattle.tree_mount.specs.Numbers.{numbers_in, rest_of, most_blocks}
 use Rattle.tree_mount.proofs.Lists.{answers-length}
+use Rattle.tree_mount.proofs.GoodNumbers.{good-table}
+use Rattle.tree_mount.proofs.TableNumbers.{table-numbers}
 use Rattle.tree_mount.proofs.Tables.{lists-long, rooms-are}
 use Rattle.tree_mount.specs.Bodies.{HasEntries}
 use Rattle.tree_mount.specs.Numbers.{HasTable}
@@ -54,12 +56,23 @@ returns-clause-body c =
             read = subst (λ (ns : List (List ℕ)). HasEntries blocks c.read_body.new.self ns entries.0) (sym table.files) entries.2;
           },
       table.used,
-      ap length table.files ∙ lists-long (most_blocks row) table.fields (numbers_in row bytes)
-          ∙ answers-length (λ k. entry_of_bytes c.in-Some.version (entry_bytes bytes k)) 0 row.files table.fields table.spelled,
-      λ f less.
-          let many = answers-length (λ k. entry_of_bytes c.in-Some.version (entry_bytes bytes k)) 0 row.files table.fields table.spelled in
-          ap (λ (ls : List (List ℕ)). length (slice_index_or ls f [])) table.files ∙ rooms-are row table.fields (numbers_in row bytes) (rest_of row bytes) table.good f (omega (arith, less, many)),
     )
+
+pub returns-clause-rooms : goal.returns-clause-rooms
+returns-clause-rooms c =
+    let row = c.args.row.now in
+    let bytes = c.args.bytes.now in
+    let table : HasTable c.in-Some.version row bytes c.in-Some-2.table = rw c.in-Some-2.is at c.in_ok-table.ensures in
+    let many = answers-length (λ k. entry_of_bytes c.in-Some.version (entry_bytes bytes k)) 0 row.files table.fields table.spelled in
+    record {
+      files = ap length table.files ∙ lists-long (most_blocks row) table.fields (numbers_in row bytes) ∙ many;
+      rooms = λ f less. ap (λ (ls : List (List ℕ)). length (slice_index_or ls f [])) table.files ∙ rooms-are row table.fields (numbers_in row bytes) (rest_of row bytes) table.good f (omega (arith, less, many));
+    }
+
+pub returns-clause-numbers : goal.returns-clause-numbers
+returns-clause-numbers c =
+    let table : HasTable c.in-Some.version c.args.row.now c.args.bytes.now c.in-Some-2.table = rw c.in-Some-2.is at c.in_ok-table.ensures in
+    table-numbers c.in-Some.version c.args.row.now c.args.bytes.now c.in-Some-2.table table
 
 pub returns-clause-files : goal.returns-clause-files
 returns-clause-files c = (
@@ -72,3 +85,16 @@ returns-clause-directories c = (
   c.read_body.ensures.directories ∙ ap (λ (v : TreeValue). length v.directories) c.in_ok-tree.ensures.tree ∙ length-replicate {A = Option (List Name)} c.args.row.now.directories None,
   c.in_ok-tree.ensures.few.1,
 )
+
+pub returns-clause-good : goal.returns-clause-good
+returns-clause-good c =
+    let row = c.args.row.now in
+    let bytes = c.args.bytes.now in
+    let files : length c.in_ok-tree.tree.files ≡ row.files
+    = ap (λ (v : TreeValue). length v.files) c.in_ok-tree.ensures.tree ∙ length-replicate {A = Option (List Name)} row.files None in
+    let directories : length c.in_ok-tree.tree.directories ≡ row.directories
+    = ap (λ (v : TreeValue). length v.directories) c.in_ok-tree.ensures.tree ∙ length-replicate {A = Option (List Name)} row.directories None in
+    let header : header_of (take 64 bytes) ≡ Some (c.in-Some.field-0-0, c.in-Some.version) = sym c.in-Some.ensures in
+    let table : HasTable c.in-Some.version row bytes c.in-Some-2.table = rw c.in-Some-2.is at c.in_ok-table.ensures in
+    let read = ap (λ o. tree_by o row.files row.directories bytes) (sym header) ∙ (λ i. tree_in_body (sym files i) (sym directories i) bytes) ∙ c.if-not-read_body.ensures.tree in
+    good-table c.in-Some.version row bytes c.read_body.new.self c.in-Some-2.table read table

@@ -1,4 +1,4 @@
-use Rattle.std.proofs.Common.{◌≡◌, ◌+◌, ◌*◌, ◌≤◌, ℕ, List, Result, Err, length, None, Some, sym, ap, subst, ◌∙◌, arith}
+use Rattle.std.proofs.Common.{◌≡◌, ◌+◌, ◌*◌, ◌≤◌, ℕ, List, Option, Result, Err, length, None, Some, sym, ap, subst, ◌∙◌, arith}
 use Rattle.apex_model.specs.Layout.{body_blocks, tree_blocks}
 use Rattle.rig_core.specs.Bytes.{part}
 use Rattle.std.proofs.lemmas.Bool.Decides.{nat_tests}
@@ -8,9 +8,11 @@ use Rattle.meta_journal.specs.Journal as journal
 use Rattle.meta_journal.specs.Leading.{records}
 use Rattle.journal_replay.specs.Replay as replay
 use Rattle.tree_mount.specs.Bodies.{IsBody}
+use Rattle.tree_mount.specs.Numbers.{AreUsed, numbers_in}
 use Rattle.tree_mount.specs.Region.{slots_at, body_of, journal_of}
+use Rattle.tree_mount.proofs.GoodNumbers.{good-kept}
 use Rattle.tree_mount.proofs.JournalRoom.{room-there}
-use Rattle.tree_mount.proofs.Mounted.{bad-body, bad-records, good-tree, good-long, good-version}
+use Rattle.tree_mount.proofs.Mounted.{bad-body, bad-records, good-tree, good-version}
 use Rattle.tree_mount.proofs.NamedNumbers.{named-used}
 use Rattle.tree_mount.proofs.Places.{none-newest}
 use Rattle.tree_mount.proofs.Replaying.{replayed-some}
@@ -86,15 +88,9 @@ returns-in-Ok-replay_all-clause-stands g c = λ tells.
     = c.new-journal.ensures.first ∙ (λ i. c.slot_start-body_at.ensures i + 512 + 512 * (c.from.ensures ∙ c.body_blocks-blocks.ensures.value) i) in
     let replayed : replay.replayed kept.version (Some kept.tree) (records (journal_of row at c.in-Ok.newest) view) ≡ Some c.replay_all.new.tree
     = ap (λ (rs : List (List ℕ)). replay.replayed kept.version (Some kept.tree) rs) (λ i. records (sym first i) (sym later i)) ∙ c.in-Ok-replay_all.ensures.replayed tells in
-    let long = good-long row at view fits c.in-Ok.newest newest kept is c.in-Ok-read_body_at.ensures.files.0 c.in-Ok-read_body_at.ensures.directories.0 c.in-Ok-read_body_at.ensures.files.1
-    c.in-Ok-read_body_at.ensures.directories.1 c.replay_all.new.tree replayed in
     record {
       tree = good-tree row at view fits c.in-Ok.newest newest kept is c.in-Ok-read_body_at.ensures.files.0 c.in-Ok-read_body_at.ensures.directories.0 c.in-Ok-read_body_at.ensures.files.1
           c.in-Ok-read_body_at.ensures.directories.1 c.replay_all.new.tree replayed;
-      files = long.0;
-      directories = long.1;
-      table = is.2;
-      rooms = is.3;
       newest = c.in-Ok.newest;
       is_newest = newest;
       spells = λ blocks data_long.
@@ -113,10 +109,8 @@ returns-in-Ok-replay_all-clause-stands g c = λ tells.
             changed = after.1;
             has = after.2;
           };
-      place = c.in-Ok.ensures.place ∙ place;
       slots = subst (λ (v : List ℕ). Knows c.find_newest.new.slots v) seen (c.in-Ok.ensures.known tells);
       version = good-version row at view fits c.in-Ok.newest newest kept is;
-      used = is.1;
       named = λ n there one few. named-used row at view fits c.in-Ok.newest newest kept.table.used is.1 n there one few;
       first = c.in-Ok-replay_all.ensures.first ∙ first;
       held = c.in-Ok-replay_all.ensures.held tells ∙ (λ i. length (records (first i) (later i)));
@@ -139,7 +133,39 @@ returns-in-Ok-replay_all-clause-within g c =
     = c.in-Ok-replay_all.ensures.first ∙ c.new-journal.ensures.first ∙ (λ i. c.slot_start-body_at.ensures i + 512 + 512 * (c.from.ensures ∙ c.body_blocks-blocks.ensures.value) i) in
     let inside = gate-within (slots_at row at) c.in-Ok.newest in
     record {
+      place = c.in-Ok.ensures.place ∙ c.new-slots.ensures.place ∙ ap (λ n. let p : Place = record { start = at; body = n; tail = 64 } in p) c.body_blocks-blocks.ensures.value;
       from = omega (arith, first, inside.0);
       to = omega (arith, first, inside.1);
       few = (c.in-Ok-read_body_at.ensures.files.1, c.in-Ok-read_body_at.ensures.directories.1);
     }
+
+pub returns-in-Ok-replay_all-clause-limits : goal.returns-in-Ok-replay_all-clause-limits
+returns-in-Ok-replay_all-clause-limits g c = record {
+  files = c.replay_all.ensures.files ∙ c.in-Ok-read_body_at.ensures.files.0;
+  directories = c.replay_all.ensures.directories ∙ c.in-Ok-read_body_at.ensures.directories.0;
+  table = c.in-Ok-read_body_at.ensures.rooms.files;
+  rooms = c.in-Ok-read_body_at.ensures.rooms.rooms;
+}
+
+pub returns-in-Ok-replay_all-clause-good : goal.returns-in-Ok-replay_all-clause-good
+returns-in-Ok-replay_all-clause-good g c =
+    let kept = c.in-Ok-read_body_at.body in
+    good-kept c.args.row.now kept.tree c.replay_all.new.tree kept.table.files.items c.replay_all.ensures.stored c.in-Ok-read_body_at.ensures.good
+
+pub returns-in-Ok-replay_all-clause-used : goal.returns-in-Ok-replay_all-clause-used
+returns-in-Ok-replay_all-clause-used g c = λ tells slot is_newest.
+    let row = c.args.row.now in
+    let at = c.args.at in
+    let kept = c.in-Ok-read_body_at.body in
+    let view = (g.R.Rig.state c.args.rig.now).view in
+    let place : place_of c.new-slots.result ≡ slots_at row at
+    = c.new-slots.ensures.place ∙ ap (λ n. let p : Place = record { start = at; body = n; tail = 64 } in p) c.body_blocks-blocks.ensures.value in
+    let newest : newest_slot (slots_at row at) view ≡ Some c.in-Ok.newest
+    = ap (λ (p : Place). newest_slot p view) (sym place) ∙ c.in-Ok.ensures.newest tells in
+    let seen : (g.R.Rig.state c.find_newest.new.rig).view ≡ view = c.find_newest.ensures.reads.view tells in
+    let body : part (c.slot_start-body_at.result + 512) (512 * body_blocks row) (g.R.Rig.state c.find_newest.new.rig).view ≡ body_of row at c.in-Ok.newest view
+    = (λ i. part (c.slot_start-body_at.ensures i + 512) (512 * body_blocks row) (seen i)) in
+    let is : IsBody row (body_of row at c.in-Ok.newest view) (Some kept) = subst (λ (b : List ℕ). IsBody row b (Some kept)) body (c.in-Ok-read_body_at.ensures.body tells) in
+    let found : ◌≡◌ {A = Option ℕ} (Some c.in-Ok.newest) (Some slot) = sym newest ∙ is_newest in
+    let same : c.in-Ok.newest ≡ slot = cc in
+    subst (λ (s : ℕ). AreUsed row.quota (numbers_in row (body_of row at s view)) kept.table.used) same is.1
