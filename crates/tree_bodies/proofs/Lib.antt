@@ -1,0 +1,5 @@
+pub mod Bodies
+pub mod Contents
+pub mod FileNumbers
+pub mod GoodBlocks
+pub mod Spelled
