@@ -1,6 +1,6 @@
 -- A region stays in step while a data block is written that isn't named.
 use Rattle.std.proofs.Common.{◌≡◌, inl, inr, ⊎_elim, ℕ, zero, suc, ◌+◌, ◌-◌, ◌*◌, ◌<◌, ◌≤◌, List, [], length, refl, sym, ap, subst, ◌∙◌, Some, arith}
-use Rattle.std.specs.Prelude.{slice_index_or}
+use Rattle.std.specs.Prelude.{Contains, slice_index_or}
 use Rattle.std.proofs.lemmas.Bool.{cases_lt}
 use Rattle.std.proofs.lemmas.Bool.Decides.{nat_tests}
 use Rattle.std.proofs.lemmas.List.{places}
@@ -15,14 +15,14 @@ use Rattle.rig_core.proofs.Put.{byte-part, part_same}
 use Rattle.gate_slots.specs.Place.{Place, newest_slot, slots_size}
 use Rattle.gate_slots.specs.Place.{gate_of as slot_gate}
 use Rattle.gate_slots.proofs.Regions as slots
+use Rattle.gate_slots.specs.Slots.{place_of}
 use Rattle.meta_journal.specs.Journal as meta
 use Rattle.meta_journal.specs.Leading.{records, gate_of}
 use Rattle.meta_journal.proofs.Regions as journal
-use Rattle.tree_mount.specs.Numbers.{AreUsed, numbers_in}
 use Rattle.tree_mount.specs.Region.{Spells, StandsFor, region_at, slots_at, body_of, journal_of}
 use Rattle.tree_mount.specs.declared.region.TreeRegion.{TreeRegion}
 use Rattle.tree_mount.proofs.JournalRoom.{room-there}
-use Rattle.tree_mount.proofs.NamedNumbers.{named-used}
+use Rattle.tree_mount.proofs.NamedNumbers.{names-stay}
 use Rattle.tree_mount.proofs.Places.{slot-low, data-long}
 use Rattle.tree_changes.specs.InStep.{InStep, SameNamed, AreOthers, IsTree, data_at, block_place, slots_long}
 use Rattle.tree_changes.proofs.Places.{some-body, data-part, record-start, newest-settled, body-settled, slot-high}
@@ -31,7 +31,7 @@ use Rattle.tree_changes.proofs.Spelled.{over-same, tree-there}
 -- ---- an image with the same slots and the same named blocks
 
 module _ (row : TreeRow) (at : ℕ) (kept : TreeRegion) (a b : List ℕ) (long : length b ≡ length a) (fits : at + 512 * tree_blocks row ≤ length a) (same : SameWithin at (slots_long row) a b)
-    (named : SameNamed kept.table.files.items (data_at row at a) (data_at row at b)) (stands : StandsFor row at a kept) where
+    (named : SameNamed kept.table.files.items (data_at row at a) (data_at row at b)) (place : place_of kept.slots ≡ slots_at row at) (stands : StandsFor row at a kept) where
   abbrev slot : ℕ
   slot = stands.newest
 
@@ -85,24 +85,17 @@ module _ (row : TreeRow) (at : ℕ) (kept : TreeRegion) (a b : List ℕ) (long :
   stands-same =
       let version_is : byte b (slot_gate (slots_at row at) slot + 513) ≡ kept.version = within-slot (slot_gate (slots_at row at) slot + 513) (omega arith) (omega (arith, some-body row)) ∙ stands.version in
       let held_is : meta.held_of kept.journal ≡ length (records (journal_of row at slot) b) = stands.held ∙ ap length (sym same-recs) in
-      let used : AreUsed row.quota (numbers_in row (body_of row at slot b)) kept.table.used = subst (λ (bytes : List ℕ). AreUsed row.quota (numbers_in row bytes) kept.table.used) (sym same-body) stands.used in
       let finds : meta.FindsRoom kept.journal b =
       ⊎_elim (λ stray. inl ((stray.0.0, stray.0.1, stray.0.2, gate-same stray.0.0 stray.0.2 ∙ stray.0.3), stray.1))
       (λ none. inr (λ r from few opened. none.0 r from few (sym (gate-same r few) ∙ opened), none.1)) stands.room in
       record {
         tree = is-tree;
-        files = stands.files;
-        directories = stands.directories;
-        table = stands.table;
-        rooms = stands.rooms;
         newest = slot;
         is_newest = newest-there;
         spells = spells-there;
-        place = stands.place;
-        slots = (slots.knows_speaks kept.slots (subst (λ (p : Place). 0 < p.body) (sym stands.place) (some-body row))).told_by a b long (subst Same (sym stands.place) whole-slots) stands.slots;
+        slots = (slots.knows_speaks kept.slots (subst (λ (p : Place). 0 < p.body) (sym place) (some-body row))).told_by a b long (subst Same (sym place) whole-slots) stands.slots;
         version = version_is;
-        used = used;
-        named = λ n there one few. named-used row at b fits-there slot newest-there kept.table.used used n there one few;
+        named = λ n there. stands.named n (subst (λ (ns : List ℕ). Contains ns n) (names-stay row at slot a b fits fits-there stands.is_newest newest-there same-body same-recs) there);
         first = stands.first;
         held = held_is;
         room = finds;
@@ -157,7 +150,7 @@ module _ (V K : Type 0) (row : TreeRow) (at number : ℕ) (one : 1 ≤ number) (
 
   there : V → StandsFor row at e.view kept
   there shown = stands-same row at kept o.view e.view (view-long shown) (view-fits shown) (slots-same row at number one o.view e.view (view-long shown) (view-fits shown) (view shown))
-      (named-same row at number one o.view e.view (view-long shown) (view-fits shown) (view shown) kept.table.files.items others) (step.stands shown)
+      (named-same row at number one o.view e.view (view-long shown) (view-fits shown) (view shown) kept.table.files.items others) step.within.place (step.stands shown)
 
   abbrev numbers : List (List ℕ)
   numbers = kept.table.files.items
@@ -179,7 +172,7 @@ module _ (V K : Type 0) (row : TreeRow) (at number : ℕ) (one : 1 ≤ number) (
       let slots : SameWithin at (slots_long row) o.view image = record { within = λ k start end. near.within k start end ∙ was.within k start end } in
       let named : SameNamed numbers (data_at row at o.view) (data_at row at image)
       = λ f k. named-same row at number one from.0 image from.3.long from_fits from.3 numbers others f k ∙ step.named from.0 from.1 from.2 f k in
-      record { tree = tree-same row at kept o.view image long (view-fits shown) slots named (step.stands shown); blocks = named; shown = shown }
+      record { tree = tree-same row at kept o.view image long (view-fits shown) slots named step.within.place (step.stands shown); blocks = named; shown = shown }
 
   -- at each moment the tree is the same
   pub moments : Leaves (λ image. tree_of_region row (region_at row at image) ≡ tree_of_region row (region_at row at o.view)) o e
@@ -191,7 +184,7 @@ module _ (V K : Type 0) (row : TreeRow) (at number : ℕ) (one : 1 ≤ number) (
   view-same : V → IsLike e.view
   view-same shown = record {
     tree = tree-same row at kept o.view e.view (view-long shown) (view-fits shown) (slots-same row at number one o.view e.view (view-long shown) (view-fits shown) (view shown))
-        (named-same row at number one o.view e.view (view-long shown) (view-fits shown) (view shown) numbers others) (step.stands shown);
+        (named-same row at number one o.view e.view (view-long shown) (view-fits shown) (view shown) numbers others) step.within.place (step.stands shown);
     blocks = named-same row at number one o.view e.view (view-long shown) (view-fits shown) (view shown) numbers others;
     shown = shown;
   }
@@ -200,6 +193,9 @@ module _ (V K : Type 0) (row : TreeRow) (at number : ℕ) (one : 1 ≤ number) (
   pub beside : InStep V row at e kept
   beside = record {
     within = step.within;
+    limits = step.limits;
+    numbers = step.numbers;
+    good = step.good;
     stands = there;
     settled = λ image told now.
         let from = leaves_now (FromNow (block_place row at number) 512 o) o e sound_after run image told now in

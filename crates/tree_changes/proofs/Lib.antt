@@ -1,6 +1,12 @@
 pub mod Beside
-pub mod Lengths
+pub mod Changed
+pub mod Committed
+pub mod Contents
+pub mod Emptied
+pub mod Free
+pub mod InTables
 pub mod Opened
 pub mod Places
+pub mod Ready
 pub mod Recorded
 pub mod Spelled

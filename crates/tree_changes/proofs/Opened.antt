@@ -7,7 +7,9 @@ use Rattle.rig_core.specs.Leaves.{IsAllSettled}
 use Rattle.rig_core.specs.Outside.{Outside, Sound, OnlyReads}
 use Rattle.rig_core.proofs.Moments.{now_none}
 use Rattle.rig_core.proofs.Regions.{settled_all}
-use Rattle.tree_mount.specs.Region.{IsWithin, StandsFor, region_at}
+use Rattle.tree_mount.specs.GoodNumbers.{HasGoodNumbers}
+use Rattle.tree_mount.specs.Numbers.{HasNumbers}
+use Rattle.tree_mount.specs.Region.{HasLimits, IsWithin, StandsFor, region_at}
 use Rattle.tree_mount.specs.declared.region.TreeRegion.{TreeRegion}
 use Rattle.tree_changes.specs.InStep.{InStep, data_at, slots_long}
 
@@ -18,9 +20,12 @@ module _ (V K : Type 0) (row : TreeRow) (at : ℕ) (o e : Outside) (sound : Soun
       let before = now_none o e sound reads.later.clock reads.cuts image told now in
       all image told before ∙ sym (reads.view (sound.shown e.clock image told now))
 
-  pub opened : (kept : TreeRegion) → IsWithin row at kept → (V → StandsFor row at o.view kept) → InStep V row at e kept
-  opened kept within stands = record {
+  pub opened : (kept : TreeRegion) → IsWithin row at kept → HasLimits row kept → HasNumbers row kept.table → HasGoodNumbers row kept.tree kept.table.files.items → (V → StandsFor row at o.view kept) → InStep V row at e kept
+  opened kept within limits numbers good stands = record {
     within = within;
+    limits = limits;
+    numbers = numbers;
+    good = good;
     stands = λ shown. subst (λ (view : List ℕ). StandsFor row at view kept) (sym (reads.view shown)) (stands shown);
     settled = settled_all at (slots_long row) e still;
     named = λ image told now f k. ap (λ (i : List ℕ). data_block (data_at row at i) (slice_index_or (slice_index_or kept.table.files.items f []) k 0)) (still image told now);

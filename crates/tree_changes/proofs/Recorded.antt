@@ -18,14 +18,15 @@ use Rattle.meta_journal.specs.Journal as meta
 use Rattle.meta_journal.specs.Leading.{records, gate_of}
 use Rattle.file_tree.specs.Entries.{TreeValue}
 use Rattle.file_tree.specs.Records.{applied}
-use Rattle.tree_mount.specs.Numbers.{AreUsed, numbers_in}
 use Rattle.tree_mount.specs.Region.{Spells, StandsFor, tree_over, region_at, slots_at, body_of, journal_of}
 use Rattle.tree_mount.specs.declared.region.TreeRegion.{TreeRegion}
+use Rattle.tree_mount.proofs.GoodNumbers.{good-kept}
 use Rattle.tree_mount.proofs.JournalRoom.{room-there}
-use Rattle.tree_mount.proofs.NamedNumbers.{named-used}
+use Rattle.tree_mount.proofs.NamedNumbers.{names-fewer}
 use Rattle.tree_mount.proofs.Places.{slot-low}
 use Rattle.tree_changes.specs.InStep.{InStep, SameNamed, IsTree, data_at, slots_long}
-use Rattle.tree_changes.proofs.Lengths.{applied-long}
+use Rattle.journal_replay.proofs.Lengths.{applied-long}
+use Rattle.journal_replay.proofs.Stored.{applied-stored}
 use Rattle.tree_changes.proofs.Places.{some-body, knows-same, record-low, gates-stay, numbers-stay, newest-stays, body-stays, data-stays, newest-settled, body-settled}
 use Rattle.tree_changes.proofs.Spelled.{over-same, spelled-more, tree-there}
 
@@ -92,7 +93,7 @@ module _ (V K : Type 0) (row : TreeRow) (at : ℕ) (kept : TreeRegion) (o e : Ou
   new-spells : (shown : V) → Spells row (body_of row at (slot shown) o.view) (records (journal_of row at (slot shown)) o.view ++ bytes ∷ []) kept.version after numbers
   new-spells shown =
       spelled-more row (body_of row at (slot shown) o.view) (records (journal_of row at (slot shown)) o.view) kept.version kept.tree after numbers bytes change
-      (omega (arith, (step.stands shown).files, step.within.few.0)) (omega (arith, (step.stands shown).directories, step.within.few.1)) (subst (λ n. record_of n bytes ≡ Some change) (sym version) spelled) applies (step.stands shown).spells
+      (omega (arith, step.limits.files, step.within.few.0)) (omega (arith, step.limits.directories, step.within.few.1)) (subst (λ n. record_of n bytes ≡ Some change) (sym version) spelled) applies (step.stands shown).spells
 
   tree-of : V → (from img : List ℕ) → length from ≡ length o.view → SameWithin at (slots_long row) o.view from → SameNamed numbers blocks (data_at row at from) → SameElsewhere gate 1024 from img → Either img → Trees img
   tree-of shown from img from_long settled named same either =
@@ -134,21 +135,19 @@ module _ (V K : Type 0) (row : TreeRow) (at : ℕ) (kept : TreeRegion) (o e : Ou
     same-body : (shown : V) → body_of row at (slot shown) e.view ≡ body_of row at (slot shown) o.view
     same-body shown = body-stays row at (slot shown) held (low shown) (few shown) o.view e.view (there shown)
 
+    recs-there : (shown : V) → records (journal_of row at (slot shown)) e.view ≡ records (journal_of row at (slot shown)) o.view ++ bytes ∷ []
+    recs-there shown = subst (λ n. records n e.view ≡ records n o.view ++ bytes ∷ []) (step.stands shown).first (appended shown)
+
     spells-there : (shown : V) → Spells row (body_of row at (slot shown) e.view) (records (journal_of row at (slot shown)) e.view) kept.version after numbers
     spells-there shown =
-        let recs : records (journal_of row at (slot shown)) e.view ≡ records (journal_of row at (slot shown)) o.view ++ bytes ∷ []
-        = subst (λ n. records n e.view ≡ records n o.view ++ bytes ∷ []) (step.stands shown).first (appended shown) in
         subst (λ (b : List ℕ). Spells row b (records (journal_of row at (slot shown)) e.view) kept.version after numbers) (sym (same-body shown))
-        (subst (λ (rs : List (List ℕ)). Spells row (body_of row at (slot shown) o.view) rs kept.version after numbers) (sym recs) (new-spells shown))
+        (subst (λ (rs : List (List ℕ)). Spells row (body_of row at (slot shown) o.view) rs kept.version after numbers) (sym (recs-there shown)) (new-spells shown))
 
     stands-there : V → StandsFor row at e.view new
     stands-there shown =
         let was = step.stands shown in
         let fits_there : at + 512 * tree_blocks row ≤ length e.view = omega (arith, fits, size, sound_after.view_fills shown) in
         let knows = known shown in
-        let longs = applied-long kept.tree after change applies in
-        let used : AreUsed row.quota (numbers_in row (body_of row at (slot shown) e.view)) kept.table.used
-        = subst (λ (b : List ℕ). AreUsed row.quota (numbers_in row b) kept.table.used) (sym (same-body shown)) was.used in
         let version_is : byte e.view (slot_gate (slots_at row at) (slot shown) + 513) ≡ kept.version = (there shown).below (slot_gate (slots_at row at) (slot shown) + 513) (omega (arith, some-body row, record-low row at (slot shown) held (low shown))) ∙ was.version in
         let held_here : meta.held_of j ≡ length (records (journal_of row at (slot shown)) e.view) = sym knows.count ∙ (λ i. length (records (first-there shown i) e.view)) in
         let finds : meta.FindsRoom j e.view = inr (
@@ -157,21 +156,15 @@ module _ (V K : Type 0) (row : TreeRow) (at : ℕ) (kept : TreeRegion) (o e : Ou
         ) in
         record {
           tree = tree-there row at e.view fits_there (slot shown) (newest-there shown) kept.version after numbers (spells-there shown);
-          files = longs.files ∙ was.files;
-          directories = longs.directories ∙ was.directories;
-          table = was.table;
-          rooms = was.rooms;
           newest = slot shown;
           is_newest = newest-there shown;
           spells = spells-there shown;
-          place = was.place;
           slots = knows-same kept.slots o.view e.view
-              (subst (λ (p : Place). (s : ℕ) → byte e.view (slot_gate p s) ≡ byte o.view (slot_gate p s)) (sym was.place) (gates-stay row at (slot shown) held (low shown) (few shown) o.view e.view (there shown)))
-              (subst (λ (p : Place). (s : ℕ) → byte e.view (slot_gate p s + 512) ≡ byte o.view (slot_gate p s + 512)) (sym was.place) (numbers-stay row at (slot shown) held (low shown) (few shown) o.view e.view (there shown)))
+              (subst (λ (p : Place). (s : ℕ) → byte e.view (slot_gate p s) ≡ byte o.view (slot_gate p s)) (sym step.within.place) (gates-stay row at (slot shown) held (low shown) (few shown) o.view e.view (there shown)))
+              (subst (λ (p : Place). (s : ℕ) → byte e.view (slot_gate p s + 512) ≡ byte o.view (slot_gate p s + 512)) (sym step.within.place) (numbers-stay row at (slot shown) held (low shown) (few shown) o.view e.view (there shown)))
               was.slots;
           version = version_is;
-          used = used;
-          named = λ n there one low_enough. named-used row at e.view fits_there (slot shown) (newest-there shown) kept.table.used used n there one low_enough;
+          named = λ n its. was.named n (names-fewer row at (slot shown) o.view e.view (long shown) fits_there was.is_newest (newest-there shown) (same-body shown) bytes (recs-there shown) n its);
           first = first-there shown;
           held = held_here;
           room = finds;
@@ -181,10 +174,15 @@ module _ (V K : Type 0) (row : TreeRow) (at : ℕ) (kept : TreeRegion) (o e : Ou
 
     -- the region is in step
     pub in-step : InStep V row at e new
-    in-step = record {
-      within = record { from = omega (arith, first_is, step.within.from); to = omega (arith, first_is, step.within.to); few = step.within.few };
-      stands = stands-there;
-      settled = settled_all at (slots_long row) e all;
-      named = λ image told now f k. ap (λ (i : List ℕ). data_block (data_at row at i) (slice_index_or (slice_index_or numbers f []) k 0)) (all image told now);
-      same_tree = λ image told now. ap (λ (i : List ℕ). tree_of_region row (region_at row at i)) (all image told now);
-    }
+    in-step =
+        let longs = applied-long kept.tree after change applies in
+        record {
+          within = record { place = step.within.place; from = omega (arith, first_is, step.within.from); to = omega (arith, first_is, step.within.to); few = step.within.few };
+          limits = record { files = longs.files ∙ step.limits.files; directories = longs.directories ∙ step.limits.directories; table = step.limits.table; rooms = step.limits.rooms };
+          numbers = step.numbers;
+          good = good-kept row kept.tree after numbers (applied-stored kept.tree after change applies) step.good;
+          stands = stands-there;
+          settled = settled_all at (slots_long row) e all;
+          named = λ image told now f k. ap (λ (i : List ℕ). data_block (data_at row at i) (slice_index_or (slice_index_or numbers f []) k 0)) (all image told now);
+          same_tree = λ image told now. ap (λ (i : List ℕ). tree_of_region row (region_at row at i)) (all image told now);
+        }

@@ -16,7 +16,7 @@ use Rattle.journal_replay.specs.Replay as replay
 use Rattle.tree_mount.specs.Region.{Spells, stored_node, tree_over, slots_at, body_of, journal_of}
 use Rattle.tree_mount.proofs.Overlaid.{tree-is}
 use Rattle.tree_mount.proofs.Places.{slot-low, some-newest, data-long, body-there, records-there}
-use Rattle.tree_mount.proofs.Replaying.{replayed-some}
+use Rattle.tree_mount.proofs.Replaying.{replayed-some, replayed-append}
 use Rattle.tree_changes.specs.InStep.{SameNamed, IsTree, data_at}
 
 -- ---- blocks that are the same
@@ -35,10 +35,6 @@ module _ (numbers : List (List ℕ)) (a b : List ℕ) (same : SameNamed numbers 
   over-same = λ i. map (λ (p : List Name × Node ℕ). let q : List Name × Node StoredFile = (p.0, node-same p.1 i) in q) v.nodes
 
 -- ---- one more record
-
-replayed-append : (version : ℕ) (xs ys : List (List ℕ)) (o : Option image.Entries) → image.replayed version (xs ++ ys) o ≡ image.replayed version ys (image.replayed version xs o)
-replayed-append version [] ys o = refl
-replayed-append version (x ∷ xs) ys o = replayed-append version xs ys (elim o [ None ↦ None | Some e ↦ elim (record_of version x) [ None ↦ None | Some change ↦ image.applied e change ] ])
 
 replay-one : (version : ℕ) (v : TreeValue) (bytes : List ℕ) (change : RecordField) → record_of version bytes ≡ Some change → replay.replayed version (Some v) (bytes ∷ []) ≡ applied v change
 unfolding replay.replayed

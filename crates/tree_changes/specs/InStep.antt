@@ -7,7 +7,9 @@ use Rattle.rig_core.specs.Leaves.{IsSettled}
 use Rattle.rig_core.specs.Outside.{Outside, AllNow}
 use Rattle.meta_journal.specs.Journal as journal
 use Rattle.file_tree.specs.Entries.{TreeValue}
-use Rattle.tree_mount.specs.Region.{IsWithin, StandsFor, tree_over, region_at, data_of}
+use Rattle.tree_mount.specs.GoodNumbers.{HasGoodNumbers}
+use Rattle.tree_mount.specs.Numbers.{HasNumbers}
+use Rattle.tree_mount.specs.Region.{HasLimits, IsWithin, StandsFor, tree_over, region_at, data_of}
 use Rattle.tree_mount.specs.declared.region.TreeRegion.{TreeRegion}
 
 -- the data blocks of these numbers are the same in two regions' data blocks
@@ -29,6 +31,11 @@ slots_long row = 512 * (2 * slot_blocks row)
 -- The region is in step with what is kept of it. Of data blocks that aren't named nothing is said.
 pub record InStep (tells_view : Type 0) (row : TreeRow) (at : ℕ) (o : Outside) (kept : TreeRegion) : Type 0 where
   pub within : IsWithin row at kept
+  pub limits : HasLimits row kept
+  -- the numbers of its files are those of used blocks
+  pub numbers : HasNumbers row kept.table
+  -- and as many as their sizes have are good ones
+  pub good : HasGoodNumbers row kept.tree kept.table.files.items
   -- what is kept stands for the view
   pub stands : tells_view → StandsFor row at o.view kept
   -- both slots with their journals are settled, and so are the named data blocks

@@ -1,10 +1,14 @@
-//! Changes of a tree's region: a record joins the newest slot's journal, under power cuts.
+//! Changes of a tree's region: a record joins the newest slot's journal, or a whole slot is written, under power cuts.
 #![tactic(auto)]
 
+mod changing;
+mod committing;
 mod opening;
 mod recording;
 mod writing;
 
+pub use changing::{change_names, commit_change};
+pub use committing::commit_slot;
 pub use opening::mount_settled;
 pub use recording::{has_room, record_change};
 pub use writing::write_block;

@@ -5,7 +5,7 @@ ghost use Rattle.apex_model.specs.Layout.{tree_blocks};
 ghost use Rattle.rig_core.specs.Causes.{Rose};
 ghost use Rattle.rig_core.specs.Leaves.{IsAllSettled};
 ghost use Rattle.rig_core.specs.Outside.{OnlyReads};
-ghost use Rattle.tree_mount.specs.Region.{region_at};
+ghost use Rattle.tree_mount.specs.Region.{AreUsedByBody, region_at};
 ghost use Rattle.tree_changes.specs.InStep.{InStep};
 
 use apex_types::TreeRow;
@@ -14,7 +14,8 @@ use std::alloc::Global;
 use tree_mount::{MountStop, TreeRegion, mount};
 
 /// Mounts the region of a tree, which begins at a byte of a device on which nothing is pending. Only reads are made,
-/// and the region is in step with what is kept of it. It is bad exactly where the region stands for no tree; a fault
+/// and the region is in step with what is kept of it, whose used blocks are exactly those that the newest slot's body
+/// names. It is bad exactly where the region stands for no tree; a fault
 /// comes only where the rig's read faults rose.
 pub fn mount_settled<R: Rig>(
     alloc: Global,
@@ -25,6 +26,7 @@ pub fn mount_settled<R: Rig>(
     requires fits { at + 512 * tree_blocks row.now ≤ (R.state rig.old).size }
     requires settled { IsAllSettled (R.state rig.old) }
     ensures in_step { IfOk result (InStep R.tells_view row.now at (R.state rig.new)) }
+    ensures used { R.tells_view → IfOk result (AreUsedByBody row.now at (R.state rig.old).view) }
     ensures bad { R.tells_view → IsErrOf result MountStop.Bad → tree_of_region row.now (region_at row.now at (R.state rig.old).view) ≡ None }
     ensures reads { OnlyReads R.tells_view (R.state rig.old) (R.state rig.new) }
     ensures cause { IsErrOf result MountStop.Device → Rose (R.state rig.old).read_faults (R.state rig.new).read_faults }
