@@ -1,23 +1,21 @@
 -- Logbooks beside the one that changes.
-use Rattle.std.proofs.Common.{◌≡◌, ◌⊎◌, inl, inr, ⊎_elim, ℕ, zero, suc, ◌+◌, ◌*◌, ◌<◌, ◌≤◌, List, [], ◌∷◌, length, map, Option, Some, option_map, refl, sym, ◌∙◌, ap, subst, arith}
+use Rattle.std.proofs.Common.{◌≡◌, ◌⊎◌, inl, inr, ⊎_elim, ℕ, zero, suc, ◌+◌, ◌*◌, ◌<◌, ◌≤◌, List, [], ◌∷◌, length, Some, refl, sym, ◌∙◌, ap, subst, arith}
 use Rattle.std.specs.Prelude.{slice_get, slice_set, slice_index_or}
-use Rattle.std.specs.List.{AllZip}
 use Rattle.std.proofs.lemmas.Bool.{cases_eq, cases_lt}
 use Rattle.apex_types.specs.declared.rows.LogbookRow.{LogbookRow}
 use Rattle.apex_model.specs.Image.{logbook_of_region}
 use Rattle.apex_model.specs.Layout.{logbook_blocks}
-use Rattle.apex_model.specs.Logbooks.{Logbook, cleared, empty_book}
-use Rattle.rig_core.specs.Bytes.{byte, part, SameElsewhere, SameWithin}
-use Rattle.rig_core.specs.Outside.{Outside, Now, Sound}
-use Rattle.rig_core.specs.Leaves.{Leaves, LeavesElsewhere, FromNow, IsSettled, AreApart, SpeaksOf}
-use Rattle.rig_core.proofs.Moments.{leaves_both, leaves_weaker, leaves_elsewhere_wider, elsewhere_wider}
+use Rattle.apex_model.specs.Logbooks.{Logbook, empty_book}
+use Rattle.rig_core.specs.Bytes.{SameElsewhere, SameWithin}
+use Rattle.rig_core.specs.Outside.{Outside, Sound}
+use Rattle.rig_core.specs.Leaves.{Leaves, LeavesElsewhere, FromNow, AreApart}
+use Rattle.rig_core.proofs.Moments.{leaves_both, leaves_weaker}
 use Rattle.rig_core.proofs.Put.{part_same}
 use Rattle.rig_core.proofs.Regions.{within_from_elsewhere}
-use Rattle.gate_slots.specs.Slots.{Knows, Place, place_of, slots_size}
+use Rattle.gate_slots.specs.Slots.{Place, place_of, slots_size}
 use Rattle.gate_slots.proofs.Regions.{knows_speaks}
-use Rattle.logbook_store.specs.Regions.{region_at, headers_at}
 use Rattle.logbook_store.specs.Books.{row_of, start_of, IsStored, Stands}
-use Rattle.logbook_store.specs.Logs.{Site, site_of, sites_of, size_of, AreLaidOut, AreSettled, AreBeforeOrAfter, AreWithin, StandFor}
+use Rattle.logbook_store.specs.Logs.{Site, site_of, sites_of, size_of, AreLaidOut, AreSettled, AreBeforeOrAfter, StandFor}
 use Rattle.logbook_store.specs.declared.book.Book.{Book}
 
 -- a region is told by its bytes

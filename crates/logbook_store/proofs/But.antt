@@ -1,14 +1,14 @@
 -- Runs that stay but for some places.
-use Rattle.std.proofs.Common.{◌≡◌, ◌⊎◌, inl, inr, ⊎_elim, ℕ, ◌+◌, ◌<◌, ◌≤◌, List, [], ◌∷◌, length, refl, sym, ◌∙◌, ap, subst, arith}
-use Rattle.std.specs.Prelude.{zero, suc, Bool, true, Some, ◌++◌, take, nat_lt, ◌==◌, if◌then◌else◌, slice_get}
-use Rattle.std.proofs.lemmas.Bool.{cases_lt, cases_eq}
+use Rattle.std.proofs.Common.{◌≡◌, ⊎_elim, ℕ, ◌+◌, ◌<◌, ◌≤◌, List, [], ◌∷◌, length, refl, ◌∙◌, ap, arith}
+use Rattle.std.specs.Prelude.{zero, suc, true, Some, ◌++◌, take, nat_lt, ◌==◌, if◌then◌else◌, slice_get}
+use Rattle.std.proofs.lemmas.Bool.{cases_lt}
 use Rattle.std.proofs.lemmas.Bool.Decides.{nat_tests}
 use Rattle.logbook_store.specs.Books.{progress_of}
 use Rattle.logbook_store.specs.declared.book.Book.{Book}
 use Rattle.logbook_store.proofs.Mounting.{take_next}
-use Rattle.rig_core.specs.Bytes.{byte, put, SameElsewhere}
-use Rattle.rig_core.specs.Outside.{Outside, Now, Sound, OnlyReads, Tears, Later}
-use Rattle.rig_core.specs.Leaves.{Leaves, LeavesElsewhere, FromNow}
+use Rattle.rig_core.specs.Bytes.{SameElsewhere}
+use Rattle.rig_core.specs.Outside.{Outside, Sound, OnlyReads, Tears}
+use Rattle.rig_core.specs.Leaves.{FromNow}
 use Rattle.rig_core.proofs.Moments.{leaves_none, leaves_same, leaves_then, leaves_weaker, leaves_now, elsewhere_torn}
 use Rattle.logbook_store.specs.Moves.{SameBut, FromNowBut, LeavesBut, moving_count}
 

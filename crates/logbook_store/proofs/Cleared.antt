@@ -1,6 +1,6 @@
 -- A region by the body of its newest header and its places, and once it was cleared.
-use Rattle.std.proofs.Common.{◌≡◌, ◌⊎◌, inl, inr, ⊎_elim, ℕ, zero, suc, ◌+◌, ◌-◌, ◌*◌, ◌<◌, ◌≤◌, max, Bool, true, false, ◌&&◌, List, [], ◌∷◌, length, Option, Some, None, option_map, refl, sym, ◌∙◌, ap, subst, arith, if◌then◌else◌}
-use Rattle.std.specs.Prelude.{slice_index, slice_set, nat_le, take, drop, ◌==◌}
+use Rattle.std.proofs.Common.{◌≡◌, ℕ, zero, suc, ◌+◌, ◌-◌, ◌*◌, ◌<◌, ◌≤◌, Bool, true, false, ◌&&◌, List, [], ◌∷◌, length, Option, Some, None, option_map, refl, sym, ◌∙◌, ap, arith, if◌then◌else◌}
+use Rattle.std.specs.Prelude.{slice_set, nat_le, drop, ◌==◌}
 use Rattle.std.proofs.lemmas.Bool.Decides.{nat_tests}
 use Rattle.std.specs.List.{range_with_len}
 use Rattle.apex_types.specs.declared.rows.LogbookRow.{LogbookRow}
@@ -8,15 +8,14 @@ use Rattle.apex_model.specs.Durable.{StoredLogbook}
 use Rattle.apex_model.specs.Fields.{log_header_of, is_padding, number_at}
 use Rattle.apex_model.specs.Fields as fields
 use Rattle.apex_model.specs.Image.{blocks_at, is_open, all_answers, message_in_place, greatest, logbook_of_region}
-use Rattle.apex_model.specs.Layout.{logbook_blocks}
-use Rattle.rig_core.specs.Bytes.{byte, part, SameWithin}
+use Rattle.rig_core.specs.Bytes.{part, SameWithin}
 use Rattle.rig_core.proofs.Put.{part_same}
-use Rattle.gate_slots.specs.Place.{Place, gate_of, content_size, newest_slot, newest_content}
-use Rattle.logbook_store.specs.Regions.{PlaceEntry, region_at, places_in, headers_at, cleared_in, stored_above}
+use Rattle.gate_slots.specs.Place.{gate_of, newest_slot, newest_content}
+use Rattle.logbook_store.specs.Regions.{PlaceEntry, region_at, places_in, headers_at, cleared_in}
 use Rattle.logbook_store.proofs.Answers.{with_answers}
 use Rattle.logbook_store.proofs.Greatest.{greatest_stays}
-use Rattle.logbook_store.proofs.Found.{region_byte, region_block, in_place, own_entry}
-use Rattle.logbook_store.proofs.Spelled.{above, region_above, no_header, cleared_there, Spells, spelled, oldest_of, with_messages, messages_above}
+use Rattle.logbook_store.proofs.Found.{region_byte, region_block, in_place}
+use Rattle.logbook_store.proofs.Spelled.{above, region_above, no_header, cleared_there, spelled, oldest_of, with_messages, messages_above}
 
 -- the cleared number that a header's body spells
 abbrev pub cleared_of : Option (List ℕ) → Option ℕ

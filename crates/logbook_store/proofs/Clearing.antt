@@ -1,19 +1,17 @@
 -- What a cut leaves while a logbook is cleared.
-use Rattle.std.proofs.Common.{◌≡◌, ◌⊎◌, inl, inr, ⊎_elim, ℕ, ◌+◌, ◌*◌, ◌%◌, ◌<◌, ◌≤◌, List, [], ◌++◌, length, Option, Some, sym, ◌∙◌, ap, subst, arith}
+use Rattle.std.proofs.Common.{◌≡◌, ◌⊎◌, inl, inr, ⊎_elim, ℕ, ◌+◌, ◌*◌, ◌%◌, List, [], ◌++◌, length, Option, Some, sym, ◌∙◌, ap, arith}
 use Rattle.std.specs.Prelude.{slice_set}
 use Rattle.std.proofs.lemmas.List.{append-nil}
 use Rattle.apex_types.specs.declared.rows.LogbookRow.{LogbookRow}
-use Rattle.apex_model.specs.Durable.{StoredLogbook}
 use Rattle.apex_model.specs.Fields.{log_header_of}
-use Rattle.apex_model.specs.Image.{logbook_of_region}
 use Rattle.apex_model.specs.Layout.{logbook_blocks}
 use Rattle.apex_model.specs.Logbooks.{Logbook, cleared}
-use Rattle.rig_core.specs.Bytes.{byte, SameElsewhere}
+use Rattle.rig_core.specs.Bytes.{SameElsewhere}
 use Rattle.rig_core.specs.Outside.{Outside, Sound}
 use Rattle.rig_core.specs.Leaves.{Leaves, LeavesElsewhere, FromNow, IsSettled}
 use Rattle.rig_core.proofs.Moments.{leaves_both, leaves_weaker}
-use Rattle.gate_slots.specs.Place.{Place, newest_content, slots_size}
-use Rattle.logbook_store.specs.Regions.{region_at, headers_at}
+use Rattle.gate_slots.specs.Place.{newest_content}
+use Rattle.logbook_store.specs.Regions.{headers_at}
 use Rattle.logbook_store.specs.Books.{IsStored}
 use Rattle.logbook_store.proofs.Cleared.{SamePlaces, header_stays, header_clears, header_numbered}
 

@@ -1,13 +1,10 @@
 -- The counts of a logbook that moved a message.
-use Rattle.std.proofs.Common.{◌≡◌, ⊎_elim, ℕ, ◌+◌, ◌-◌, ◌<◌, ◌≤◌, min, Bool, true, false, List, [], ◌∷◌, ◌++◌, length, drop, refl, sym, ◌∙◌, ap, arith, if◌then◌else◌}
+use Rattle.std.proofs.Common.{◌≡◌, ⊎_elim, ℕ, ◌+◌, ◌<◌, ◌≤◌, min, Bool, true, false, List, [], ◌∷◌, ◌++◌, length, drop, ◌∙◌, ap, arith, if◌then◌else◌}
 use Rattle.std.specs.Prelude.{nat_lt}
 use Rattle.std.proofs.lemmas.Bool.{cases_lt}
 use Rattle.std.proofs.lemmas.Bool.Decides.{nat_tests}
 use Rattle.std.proofs.lemmas.List.{length-append, length-drop}
 use Rattle.apex_model.specs.Logbooks.{Logbook, Message, moved, moved_from, pushed}
-use Rattle.logbook_store.specs.Books.{row_of, life_of, logged_of, progress_of}
-use Rattle.logbook_store.specs.Moves.{Agrees}
-use Rattle.logbook_store.specs.declared.book.Book.{Book}
 
 less_true : (m n : ℕ) → m < n → nat_lt m n ≡ true
 less_true m n less = grind (arith, nat_tests)

@@ -1,11 +1,10 @@
 -- Entries counted from the newest on.
-use Rattle.std.proofs.Common.{◌≡◌, ℕ, zero, suc, ◌+◌, ◌-◌, ◌<◌, ◌≤◌, Bool, false, List, [], ◌∷◌, length, reverse, Option, Some, option_map, refl, sym, ◌∙◌, ap, arith, if◌then◌else◌}
+use Rattle.std.proofs.Common.{◌≡◌, ℕ, zero, suc, ◌+◌, ◌-◌, ◌<◌, ◌≤◌, Bool, false, List, [], ◌∷◌, length, reverse, Some, option_map, refl, sym, ◌∙◌, ap, arith, if◌then◌else◌}
 use Rattle.std.specs.Prelude.{slice_get, nat_le}
 use Rattle.std.proofs.lemmas.Bool.Decides.{nat_tests}
 use Rattle.std.proofs.lemmas.List.{length-reverse, get_or-reverse}
 use Rattle.std.proofs.lemmas.Option.{slice_get-get_or}
 use Rattle.apex_types.specs.declared.replies.EntryState.TheVariants.{InProgress, Complete}
-use Rattle.apex_types.specs.declared.replies.Values.{Values}
 use Rattle.apex_types.specs.declared.replies.Values.TheVariants.{Entry}
 use Rattle.apex_model.specs.Logbooks.{Logbook, Message, entry_of}
 

@@ -1,7 +1,7 @@
 -- The next gate stands in the logbook's region, behind its headers.
-use Rattle.std.proofs.Common.{◌≡◌, ℕ, ◌+◌, ◌*◌, ◌%◌, ◌<◌, ◌≤◌, arith}
+use Rattle.std.proofs.Common.{◌+◌, ◌*◌, ◌≤◌, arith}
 use Rattle.apex_model.specs.Layout.{logbook_blocks}
-use Rattle.logbook_store.specs.Books.{row_of, start_of, life_of}
+use Rattle.logbook_store.specs.Books.{row_of, start_of}
 use Rattle.logbook_store.specs.Moves.{next_gate_of}
 use Rattle.logbook_store.specs.declared.book.Book.{Book}
 use Rattle.logbook_store.proofs.Found.{place_low}

@@ -11,9 +11,11 @@ pub mod Entries
 pub mod Found
 pub mod Gates
 pub mod Greatest
+pub mod Joined
 pub mod Mounting
 pub mod Moved
 pub mod Rounds
 pub mod Spelled
+pub mod Tested
 pub mod Together
 pub mod Zips

@@ -1,7 +1,7 @@
 -- Logbooks that are mounted one after the other.
-use Rattle.std.proofs.Common.{◌≡◌, ⊎_elim, ℕ, zero, suc, ◌+◌, ◌*◌, ◌<◌, ◌≤◌, Bool, true, ◌&&◌, List, [], ◌∷◌, ◌++◌, length, take, drop, map, sum_by, Option, Some, None, refl, sym, ◌∙◌, ap, subst, arith}
+use Rattle.std.proofs.Common.{◌≡◌, ℕ, zero, suc, ◌+◌, ◌*◌, ◌≤◌, true, List, [], ◌∷◌, ◌++◌, length, take, drop, map, sum_by, Option, Some, None, refl, sym, ◌∙◌, ap, subst, arith}
 use Rattle.std.specs.Prelude.{slice_get, Result, Ok, Err, nat_le, IfSome}
-use Rattle.std.specs.List.{list_all, AllByRecursion, AllZip}
+use Rattle.std.specs.List.{list_all, AllByRecursion}
 use Rattle.std.proofs.lemmas.List.Sums.{sum_by-cons}
 use Rattle.apex_types.specs.Rows.{Rows}
 use Rattle.apex_types.specs.declared.rows.LogbookRow.{LogbookRow}
@@ -15,9 +15,9 @@ use Rattle.apex_model.proofs.Keeps.{le-true}
 use Rattle.image_format.proofs.Regions.{logbook_start-next, logbook_within}
 use Rattle.logbook_store.specs.Regions.{region_at}
 use Rattle.logbook_store.specs.Books.{row_of, start_of, life_of, IsStored, Stands}
-use Rattle.logbook_store.specs.Logs.{Site, site_of, sites_of, size_of, sites_from, AreLaidOut, StandFor}
+use Rattle.logbook_store.specs.Logs.{Site, site_of, sites_of, sites_from, AreLaidOut, StandFor}
 use Rattle.logbook_store.specs.declared.book.Book.{Book}
-use Rattle.logbook_store.proofs.Zips.{zip_push, same_site}
+use Rattle.logbook_store.proofs.Zips.{zip_push}
 
 -- Rows of an accepted table.
 

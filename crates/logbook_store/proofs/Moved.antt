@@ -1,18 +1,16 @@
 -- A region while a message is moved into its next place.
-use Rattle.std.proofs.Common.{◌≡◌, ◌⊎◌, inl, inr, ⊎_elim, ℕ, zero, suc, ◌+◌, ◌-◌, ◌*◌, ◌%◌, ◌<◌, ◌≤◌, max, Bool, true, false, List, [], ◌∷◌, ◌++◌, length, drop, Option, Some, None, option_map, refl, sym, ◌∙◌, ap, subst, arith, if◌then◌else◌}
-use Rattle.std.specs.Prelude.{slice_get, nat_lt, ◌==◌}
+use Rattle.std.proofs.Common.{◌≡◌, ◌⊎◌, inl, inr, ⊎_elim, ℕ, zero, suc, ◌+◌, ◌-◌, ◌%◌, ◌<◌, ◌≤◌, Bool, true, false, List, [], ◌∷◌, ◌++◌, length, drop, Option, Some, None, refl, sym, ◌∙◌, ap, arith, if◌then◌else◌}
+use Rattle.std.specs.Prelude.{nat_lt, ◌==◌}
 use Rattle.std.specs.List.{range_with_len}
 use Rattle.std.proofs.lemmas.Bool.{cases_eq, cases_lt}
 use Rattle.std.proofs.lemmas.Bool.Decides.{nat_tests}
 use Rattle.apex_types.specs.declared.rows.LogbookRow.{LogbookRow}
 use Rattle.apex_model.specs.Durable.{StoredLogbook}
 use Rattle.apex_model.specs.Image.{all_answers, message_in_place, message_numbered, greatest, logbook_of_region}
-use Rattle.apex_model.specs.Layout.{logbook_blocks}
-use Rattle.apex_model.specs.Logbooks.{Logbook, Message, moved, pushed}
-use Rattle.rig_core.specs.Bytes.{byte, SameWithin}
-use Rattle.gate_slots.specs.Place.{newest_content}
+use Rattle.apex_model.specs.Logbooks.{Logbook, Message, moved}
+use Rattle.rig_core.specs.Bytes.{SameWithin}
 use Rattle.gate_slots.proofs.Regions.{same_content}
-use Rattle.logbook_store.specs.Regions.{PlaceEntry, region_at, places_in, headers_at, cleared_in, stored_above}
+use Rattle.logbook_store.specs.Regions.{PlaceEntry, region_at, places_in, headers_at, cleared_in}
 use Rattle.logbook_store.specs.Books.{IsStored}
 use Rattle.logbook_store.proofs.Answers.{with_answers, front, answer_at, answer_count}
 use Rattle.logbook_store.proofs.Cleared.{cleared_by_content, cleared_of, same_all}

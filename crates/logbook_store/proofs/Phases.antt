@@ -1,6 +1,6 @@
 -- What a cut leaves of each region in each phase of a move.
-use Rattle.std.proofs.Common.{◌≡◌, ◌⊎◌, inl, inr, ⊎_elim, ℕ, zero, suc, ◌+◌, ◌*◌, ◌%◌, ◌<◌, ◌≤◌, Bool, true, false, List, [], ◌∷◌, length, Option, Some, None, refl, sym, ◌∙◌, ap, subst, arith, if◌then◌else◌}
-use Rattle.std.specs.Prelude.{slice_get, ◌==◌}
+use Rattle.std.proofs.Common.{◌≡◌, ◌⊎◌, inl, inr, ⊎_elim, ℕ, ◌+◌, ◌*◌, ◌%◌, ◌<◌, ◌≤◌, Bool, true, false, List, [], ◌∷◌, length, Option, Some, None, refl, sym, ◌∙◌, ap, arith, if◌then◌else◌}
+use Rattle.std.specs.Prelude.{◌==◌}
 use Rattle.std.proofs.lemmas.Bool.{cases_eq, cases_lt}
 use Rattle.std.proofs.lemmas.Bool.Decides.{nat_tests}
 use Rattle.apex_model.specs.Fields.{log_entry_of}
@@ -10,8 +10,8 @@ use Rattle.apex_model.specs.Logbooks.{Logbook, Message, moved}
 use Rattle.rig_core.specs.Bytes.{byte, part, SameWithin}
 use Rattle.rig_core.proofs.Put.{part_same}
 use Rattle.logbook_store.specs.Regions.{PlaceEntry, region_at}
-use Rattle.logbook_store.specs.Books.{row_of, start_of, life_of, progress_of, IsStored, Stands}
-use Rattle.logbook_store.specs.Moves.{IsMoving, OpenGate, NextBody, NextGate, IsClosed, IsWritten, next_gate_of}
+use Rattle.logbook_store.specs.Books.{row_of, start_of, IsStored, Stands}
+use Rattle.logbook_store.specs.Moves.{IsMoving, OpenGate, NextBody, NextGate, IsWritten, next_gate_of}
 use Rattle.logbook_store.specs.declared.book.Book.{Book}
 use Rattle.logbook_store.proofs.Beside.{stored_same}
 use Rattle.logbook_store.proofs.Cleared.{same_place}

@@ -1,5 +1,5 @@
 -- Reads one after the other.
-use Rattle.std.proofs.Common.{◌≡◌, ℕ, ◌≤◌, sym, ◌∙◌, arith}
+use Rattle.std.proofs.Common.{◌∙◌, arith}
 use Rattle.rig_core.specs.Outside.{Outside, OnlyReads}
 
 pub reads_then : (V : Type 0) (o m e : Outside) → OnlyReads V o m → OnlyReads V m e → OnlyReads V o e

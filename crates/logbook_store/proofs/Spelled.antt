@@ -1,18 +1,17 @@
 -- What a region spells, part by part.
-use Rattle.std.proofs.Common.{◌≡◌, ◌⊎◌, inl, inr, ⊎_elim, ℕ, zero, suc, ◌+◌, ◌-◌, ◌*◌, ◌%◌, ◌<◌, ◌≤◌, max, Bool, true, false, List, length, Option, Some, None, option_map, refl, sym, ◌∙◌, ap, subst, arith, if◌then◌else◌}
+use Rattle.std.proofs.Common.{◌≡◌, ◌⊎◌, inl, inr, ⊎_elim, ℕ, ◌+◌, ◌-◌, ◌*◌, ◌%◌, ◌<◌, max, Bool, true, false, List, length, Option, Some, None, option_map, refl, sym, ◌∙◌, ap, subst, arith, if◌then◌else◌}
 use Rattle.std.specs.Prelude.{slice_get, nat_lt, ◌||◌, is_some, IfSome}
 use Rattle.std.specs.List.{range_with_len}
 use Rattle.apex_types.specs.declared.rows.LogbookRow.{LogbookRow}
 use Rattle.apex_model.specs.Durable.{StoredLogbook}
 use Rattle.apex_model.specs.Fields.{log_header_of}
-use Rattle.apex_model.specs.Image.{Slot, closed, numbered, newest, follows, slot_at, blocks_at, all_answers, message_in_place, greatest, message_numbered, book_of_life, book_of_places, book_of_header, logbook_of_region}
-use Rattle.apex_model.specs.Layout.{logbook_blocks}
-use Rattle.rig_core.specs.Bytes.{byte, part}
-use Rattle.gate_slots.specs.Place.{gate_of, newest_slot, slots_size}
+use Rattle.apex_model.specs.Image.{Slot, closed, numbered, newest, follows, slot_at, blocks_at, all_answers, message_in_place, greatest, message_numbered, logbook_of_region}
+use Rattle.rig_core.specs.Bytes.{part}
+use Rattle.gate_slots.specs.Place.{gate_of, newest_slot}
 use Rattle.gate_slots.proofs.Regions.{newest_in_region}
 use Rattle.logbook_store.specs.Regions.{PlaceEntry, region_at, places_in, headers_at, cleared_in, stored_above, HasCounts}
 use Rattle.logbook_store.proofs.Answers.{answer_at, answer_count}
-use Rattle.logbook_store.proofs.Numbers.{found_by, found_entry}
+use Rattle.logbook_store.proofs.Numbers.{found_entry}
 use Rattle.logbook_store.proofs.Found.{numbered_in, region_byte, region_block}
 
 -- A region by its cleared number and its places.

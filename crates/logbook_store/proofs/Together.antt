@@ -1,18 +1,16 @@
 -- All regions in each phase of a move.
-use Rattle.std.proofs.Common.{◌≡◌, ◌⊎◌, inl, inr, ⊎_elim, ℕ, zero, suc, ◌+◌, ◌*◌, ◌<◌, ◌≤◌, List, [], ◌∷◌, length, Option, Some, None, refl, sym, ◌∙◌, ap, subst, arith}
+use Rattle.std.proofs.Common.{◌≡◌, ◌⊎◌, inl, inr, ⊎_elim, ℕ, zero, suc, ◌+◌, ◌<◌, ◌≤◌, List, [], ◌∷◌, length, Option, Some, refl, sym, ◌∙◌, ap, subst, arith}
 use Rattle.std.specs.Prelude.{slice_get}
-use Rattle.std.specs.List.{AllZip}
 use Rattle.std.proofs.lemmas.Bool.{cases_eq, cases_lt}
-use Rattle.apex_model.specs.Layout.{logbook_blocks}
 use Rattle.apex_model.specs.Fields.{log_entry_of}
 use Rattle.apex_model.specs.Logbooks.{Logbook, Message, moved, moved_from}
 use Rattle.rig_core.specs.Bytes.{byte, part, SameWithin}
 use Rattle.rig_core.proofs.Put.{part_same}
 use Rattle.gate_slots.specs.Slots.{Knows, Place, place_of, slots_size}
 use Rattle.gate_slots.proofs.Regions.{knows_speaks}
-use Rattle.logbook_store.specs.Books.{row_of, start_of, progress_of, IsStored, Stands}
+use Rattle.logbook_store.specs.Books.{row_of, start_of, IsStored, Stands}
 use Rattle.logbook_store.specs.Logs.{Site, site_of, sites_of, size_of, AreLaidOut, AreBeforeOrAfter, StandFor}
-use Rattle.logbook_store.specs.Moves.{IsMovedIn, AreMovedIn, IsMoving, OpenGate, NextBody, NextGate, IsClosed, IsWritten, IsOpened, OfOne, AllBefore, HasMoved, Agrees, SameBut, moved_all, next_gate_of}
+use Rattle.logbook_store.specs.Moves.{IsMovedIn, AreMovedIn, IsMoving, OpenGate, NextBody, NextGate, IsClosed, IsWritten, IsOpened, OfOne, AllBefore, SameBut, moved_all, next_gate_of}
 use Rattle.logbook_store.specs.declared.book.Book.{Book}
 use Rattle.logbook_store.proofs.Beside.{site_at, beside}
 use Rattle.logbook_store.proofs.Gates.{gate_within}

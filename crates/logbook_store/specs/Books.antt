@@ -46,3 +46,7 @@ pub record Stands (book : Book) (image : List ℕ) (b : Logbook) : Type 0 where
 -- the life and the counts of a logbook
 abbrev pub counts_of : Logbook → LogCounts
 counts_of b = record { life = b.life; logged = length b.logged; progress = length b.in_progress }
+
+-- those that an object has in memory
+abbrev pub counts_in : Book → LogCounts
+counts_in book = record { life = life_of book; logged = logged_of book; progress = length (progress_of book) }

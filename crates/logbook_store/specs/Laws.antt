@@ -1,5 +1,5 @@
 -- What a logbook's region spells while a message is written into its next place.
-use Rattle.std.specs.Prelude.{◌≡◌, ℕ, ◌+◌, ◌%◌, ◌≤◌, List, [], ◌∷◌, length, Some, None}
+use Rattle.std.specs.Prelude.{◌≡◌, ℕ, ◌+◌, ◌%◌, ◌≤◌, List, ◌∷◌, length, Some, None}
 use Rattle.apex_types.specs.declared.rows.LogbookRow.{LogbookRow}
 use Rattle.apex_model.specs.Image.{message_in_place}
 use Rattle.apex_model.specs.Logbooks.{Logbook, Message, moved}

@@ -1,9 +1,9 @@
 -- What the logbooks of a device stand for together.
-use Rattle.std.specs.Prelude.{◌≡◌, ◌⊎◌, ℕ, ◌+◌, ◌*◌, ◌<◌, ◌≤◌, List, [], ◌∷◌, map, Some, Ok, Err, Result, slice_get}
+use Rattle.std.specs.Prelude.{◌≡◌, ◌⊎◌, ℕ, ◌+◌, ◌*◌, ◌<◌, ◌≤◌, List, [], ◌∷◌, map, Some, Err, Result, slice_get}
 use Rattle.std.specs.List.{AllZip}
 use Rattle.apex_types.specs.Rows.{Rows}
 use Rattle.apex_types.specs.declared.rows.LogbookRow.{LogbookRow}
-use Rattle.apex_model.specs.Durable.{StoredLogbook, loaded_book}
+use Rattle.apex_model.specs.Durable.{StoredLogbook}
 use Rattle.apex_model.specs.Image.{logbook_of_region, logbook_region, states_from}
 use Rattle.apex_model.specs.Layout.{logbook_blocks, logbook_start}
 use Rattle.apex_model.specs.Logbooks.{Logbook}

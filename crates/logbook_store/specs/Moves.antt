@@ -1,5 +1,5 @@
 -- What changes while the oldest messages in progress are moved.
-use Rattle.std.specs.Prelude.{◌≡◌, ℕ, Bool, ◌+◌, ◌*◌, ◌%◌, ◌<◌, ◌≤◌, List, [], ◌∷◌, length, nat_lt, if◌then◌else◌, Some, slice_get}
+use Rattle.std.specs.Prelude.{◌≡◌, ℕ, ◌+◌, ◌*◌, ◌%◌, ◌<◌, ◌≤◌, List, [], ◌∷◌, length, nat_lt, if◌then◌else◌, Some, slice_get}
 use Rattle.rig_core.specs.Bytes.{byte, part}
 use Rattle.rig_core.specs.Outside.{Outside, Now}
 use Rattle.rig_core.specs.Leaves.{Leaves}

@@ -88,7 +88,7 @@ fn find_cleared<R: Rig>(
 }
 
 impl Book {
-    ghost use Rattle.logbook_store.specs.Books.{row_of, start_of, life_of, logged_of, progress_of, IsStored, Stands};
+    ghost use Rattle.logbook_store.specs.Books.{row_of, start_of, life_of, logged_of, progress_of, counts_in, IsStored, Stands};
     ghost use Rattle.logbook_store.specs.Moves.{IsMoving, HasMoved, next_gate_of};
 
     /// The logbook of a row whose region begins at this byte, if the region is a good one. Nothing is in
@@ -151,7 +151,8 @@ impl Book {
 
     /// How many messages were ever moved, and how many are logged and in progress.
     pub fn counts(&self) -> LogCounts
-        ensures { result ≡ record { life = life_of self.now; logged = logged_of self.now; progress = length (progress_of self.now) } }
+        ensures value { result ≡ counts_in self.now }
+        ensures whole { result.life + result.progress ≤ 4294967295 }
     {
         LogCounts {
             life: self.life,

@@ -19,4 +19,6 @@ pub use logs::Logs;
 pub use moving::move_on_device;
 
 #[cfg(test)]
+mod move_tests;
+#[cfg(test)]
 mod tests;

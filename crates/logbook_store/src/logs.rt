@@ -1,5 +1,6 @@
 // All logbooks of a table.
-ghost use Rattle.std.specs.Prelude.{◌≡◌, ◌⊎◌, ◌+◌, ◌-◌, ◌*◌, ◌<◌, ◌≤◌, List, ℕ, Some, Ok, map, length, slice_get, slice_set, slice_index_or, IfOk, IfErr, IfSome, OnOk, OnErr};
+ghost use Rattle.std.specs.Prelude.{◌≡◌, ◌⊎◌, ◌+◌, ◌-◌, ◌*◌, ◌<◌, ◌≤◌, ◌==◌, List, ℕ, Some, Ok, map, length, nat_lt, if◌then◌else◌, slice_get, slice_set, slice_index_or, IfOk, IfErr, IfSome, OnOk, OnErr};
+ghost use Rattle.std.specs.List.{AllZip};
 ghost use Rattle.apex_types.specs.declared.replies.Values.TheVariants.{Entry};
 ghost use Rattle.apex_model.specs.Accepted.{IsAccepted};
 ghost use Rattle.apex_model.specs.Durable.{StoredLogbook, loaded_book};
@@ -9,11 +10,13 @@ ghost use Rattle.rig_core.specs.Causes.{Rose};
 ghost use Rattle.rig_core.specs.Outside.{Later, MakesAtMost, OnlyReads};
 ghost use Rattle.rig_core.specs.Bytes.{SameElsewhere};
 ghost use Rattle.rig_core.specs.Leaves.{Leaves, LeavesElsewhere, IsAllSettled};
-ghost use Rattle.logbook_store.specs.Books.{row_of, life_of, logged_of, progress_of, counts_of};
+ghost use Rattle.logbook_store.specs.Books.{row_of, life_of, logged_of, progress_of, counts_of, counts_in};
+ghost use Rattle.logbook_store.specs.Moves.{HasMoved, moved_all, moving_count};
 ghost use Rattle.logbook_store.specs.Logs.{AreBeforeOrAfter, AreLaidOut, AreSettled, AreWithin, StandFor, IsMountFault, sites_of, sites_from, stored_in};
 
 use crate::book::Book;
 use crate::errors::LogError;
+use crate::moving::move_on_device;
 use apex_types::{Bytes, EntryState, LogCounts, Table};
 use image_format::layout;
 use rig_core::{DeviceFault, Rig};
@@ -33,6 +36,23 @@ impl Model for Logs {
     ghost Value = { List Book };
 
     ghost view = { λ t. t.books.items };
+}
+
+/// Whether a message is in progress in one of the logbooks.
+fn is_any_moving(books: &[Book]) -> bool
+    ensures { result ≡ nat_lt 0 (moving_count books.now) }
+{
+    books.iter().any(|book| book.is_moving())
+}
+
+/// Takes the oldest message in progress of each logbook that has one for one that was moved.
+fn take_all_moved(books: &mut [Book])
+    ensures sites { sites_of books.new ≡ sites_of books.old }
+    ensures moved { AllZip HasMoved books.old books.new }
+{
+    for k in 0..books.len() {
+        books[k].take_moved();
+    }
 }
 
 impl Logs {
@@ -97,10 +117,13 @@ impl Logs {
         self.books[logbook as usize].replace_newest(bytes);
     }
 
-    /// How many messages a logbook ever moved, and how many are logged and in progress.
+    /// How many messages a logbook ever moved, and how many are logged and in progress. The life and those in progress
+    /// are at most 4,294,967,295 together.
     pub fn counts(&self, logbook: u32) -> LogCounts
         requires { logbook < length self.now }
-        ensures { (image : List ℕ) (logbooks : List Logbook) → StandFor self.now image logbooks → result ≡ counts_of (slice_index_or logbooks logbook empty_book) }
+        ensures told { (image : List ℕ) (logbooks : List Logbook) → StandFor self.now image logbooks → result ≡ counts_of (slice_index_or logbooks logbook empty_book) }
+        ensures kept { IfSome (slice_get self.now logbook) (λ book. result ≡ counts_in book) }
+        ensures whole { result.life + result.progress ≤ 4294967295 }
     {
         self.books[logbook as usize].counts()
     }
@@ -146,5 +169,33 @@ impl Logs {
         ensures cause { OnErr result (Rose (R.state rig.old).write_faults (R.state rig.new).write_faults) }
     {
         self.books[logbook as usize].clear(rig)
+    }
+
+    /// Moves the oldest message in progress of each logbook that has one, all together. At every moment a cut leaves
+    /// each logbook as before or as after, each by itself, and nothing changes outside the regions of the logbooks.
+    /// Where no message is in progress no call is made. It makes at most 3 writes for each logbook that moves, and
+    /// 3 syncs. A fault comes only where the rig's read or write faults rose; the logbooks are of no use for more
+    /// calls then.
+    pub fn move_all<R: Rig>(&mut self, rig: &mut R) -> Result<(), DeviceFault>
+        requires laid_out { AreLaidOut (sites_of self.old) (R.state rig.old).size }
+        requires settled { AreSettled (sites_of self.old) (R.state rig.old) }
+        ensures sites { sites_of self.new ≡ sites_of self.old }
+        ensures any_moment { (logbooks : List Logbook) → R.tells_view → StandFor self.old (R.state rig.old).view logbooks
+            → Leaves (AreBeforeOrAfter (sites_of self.old) logbooks (moved_all (sites_of self.old) logbooks)) (R.state rig.old) (R.state rig.new) }
+        ensures outside { (at n : ℕ) → AreWithin at n (sites_of self.old) → LeavesElsewhere at n (R.state rig.old) (R.state rig.new) }
+        ensures outside_view { (at n : ℕ) → AreWithin at n (sites_of self.old) → R.tells_view → SameElsewhere at n (R.state rig.old).view (R.state rig.new).view }
+        ensures moved { (logbooks : List Logbook) → R.tells_view → StandFor self.old (R.state rig.old).view logbooks
+            → OnOk result (StandFor self.new (R.state rig.new).view (moved_all (sites_of self.old) logbooks)) }
+        ensures settled { OnOk result (AreSettled (sites_of self.new) (R.state rig.new)) }
+        ensures later { Later (R.state rig.old) (R.state rig.new) }
+        ensures made { MakesAtMost (3 * moving_count self.old) (if moving_count self.old == 0 then 0 else 3) 0 (R.state rig.old) (R.state rig.new) }
+        ensures cause { OnErr result (Rose (R.state rig.old).read_faults (R.state rig.new).read_faults ⊎ Rose (R.state rig.old).write_faults (R.state rig.new).write_faults) }
+    {
+        if !is_any_moving(&self.books) {
+            return Ok(());
+        }
+        move_on_device(rig, &self.books)?;
+        take_all_moved(&mut self.books);
+        Ok(())
     }
 }

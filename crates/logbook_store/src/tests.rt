@@ -12,7 +12,7 @@ use std::test::Fail;
 // Two headers and five places of two blocks each.
 const SIZE: u64 = 7168;
 
-fn put(image: &mut [u8], at: usize, bytes: &[u8]) {
+pub(crate) fn put(image: &mut [u8], at: usize, bytes: &[u8]) {
     let size = image.len();
     if at <= size && bytes.len() <= size - at {
         image[at..at + bytes.len()].copy_from_slice(bytes);

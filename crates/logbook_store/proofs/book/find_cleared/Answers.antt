@@ -1,4 +1,4 @@
-use Rattle.std.proofs.Common.{◌≡◌, ◌+◌, ℕ, List, Option, None, Some, option_map, refl, sym, ◌∙◌, ap, arith}
+use Rattle.std.proofs.Common.{◌≡◌, ◌+◌, ℕ, Option, None, Some, option_map, sym, ◌∙◌, ap}
 use Rattle.apex_model.specs.Fields.{log_header_of}
 use Rattle.rig_core.specs.Bytes.{part}
 use Rattle.gate_slots.specs.Place.{Place, gate_of, newest_slot}

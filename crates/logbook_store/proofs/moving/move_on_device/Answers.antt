@@ -1,12 +1,8 @@
-use Rattle.std.proofs.Common.{◌≡◌, inl, inr, ⊎_elim, ℕ, ◌+◌, ◌<◌, ◌≤◌, List, Some, length, refl, sym, ◌∙◌, ap, subst, arith}
-use Rattle.std.specs.Prelude.{slice_get}
-use Rattle.apex_model.specs.Logbooks.{Logbook}
-use Rattle.rig_core.specs.Bytes.{byte}
+use Rattle.std.proofs.Common.{ℕ, List, sym, ◌∙◌, subst, arith}
 use Rattle.rig_core.specs.Leaves.{Leaves}
 use Rattle.rig_core.proofs.Moments.{leaves_then, leaves_weaker}
 use Rattle.logbook_store.specs.Logs.{site_of, sites_of, AreBeforeOrAfter}
-use Rattle.logbook_store.specs.Moves.{OpenGate, NextBody, NextGate, NextPlace, OfOne, SameBut, FromNowBut, LeavesBut, moved_all}
-use Rattle.logbook_store.specs.declared.book.Book.{Book}
+use Rattle.logbook_store.specs.Moves.{OpenGate, NextBody, NextGate, NextPlace, OfOne, SameBut, FromNowBut, moved_all}
 use Rattle.logbook_store.proofs.Beside.{site_at}
 use Rattle.logbook_store.proofs.But.{but_itself, but_then, same_itself, same_then}
 use Rattle.logbook_store.proofs.Together.{in_regions, open_inside, body_inside, next_inside, closing_all, writing_all, opening_all, closing_stand, writing_stand, all_moved_in}

@@ -1,16 +1,14 @@
-use Rattle.std.proofs.Common.{◌≡◌, inl, inr, ⊎_elim, ℕ, ◌+◌, ◌*◌, ◌<◌, ◌≤◌, List, Some, true, take, length, refl, sym, ◌∙◌, ap, subst, arith}
-use Rattle.std.specs.Prelude.{slice_get, nat_lt, if◌then◌else◌}
-use Rattle.std.proofs.lemmas.Bool.{cases_eq, cases_lt}
+use Rattle.std.proofs.Common.{◌≡◌, ⊎_elim, ℕ, ◌+◌, List, Some, length, refl, sym, ◌∙◌, ap, subst, arith}
+use Rattle.std.specs.Prelude.{slice_get}
+use Rattle.std.proofs.lemmas.Bool.{cases_eq}
 use Rattle.std.proofs.lemmas.Option.{slice_get_read}
-use Rattle.rig_core.specs.Bytes.{byte, part, put}
-use Rattle.rig_core.proofs.Put.{part-put, part_same}
+use Rattle.rig_core.specs.Bytes.{part}
+use Rattle.rig_core.proofs.Put.{part_same}
 use Rattle.apex_model.specs.Fields.{log_entry_of}
-use Rattle.logbook_store.specs.Books.{row_of, start_of, life_of, progress_of}
-use Rattle.logbook_store.specs.Logs.{site_of, sites_of, size_of}
-use Rattle.logbook_store.specs.Moves.{IsMoving, IsClosed, IsWritten, IsOpened, OpenGate, NextBody, NextGate, OfOne, next_gate_of}
-use Rattle.logbook_store.specs.declared.book.Book.{Book}
+use Rattle.logbook_store.specs.Logs.{site_of, sites_of}
+use Rattle.logbook_store.specs.Moves.{IsWritten, NextBody, OfOne, next_gate_of}
 use Rattle.logbook_store.proofs.Beside.{site_at, beside}
-use Rattle.logbook_store.proofs.But.{but_itself, but_reads, but_then, but_torn, same_then, is_less, is_same, count_next, count_front}
+use Rattle.logbook_store.proofs.But.{but_then, same_then, count_next, count_front}
 use Rattle.logbook_store.proofs.Gates.{gate_within}
 use Rattle.logbook_store.proofs.moving.write_bodies.Goals as goal
 

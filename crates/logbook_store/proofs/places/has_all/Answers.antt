@@ -1,8 +1,8 @@
-use Rattle.std.proofs.Common.{◌≡◌, ◌+◌, ◌-◌, ◌%◌, ◌<◌, ℕ, List, Option, Bool, true, false, None, Some, refl, sym, ◌∙◌, ap, arith}
+use Rattle.std.proofs.Common.{◌≡◌, ◌+◌, ◌-◌, ◌%◌, ℕ, List, Option, true, false, sym, ◌∙◌, ap, arith}
 use Rattle.std.specs.Prelude.{is_some}
 use Rattle.std.specs.List.{range_with_len}
 use Rattle.apex_model.specs.Image.{all_answers, message_in_place, message_numbered}
-use Rattle.logbook_store.specs.Regions.{PlaceEntry, region_at, is_numbered}
+use Rattle.logbook_store.specs.Regions.{region_at, is_numbered}
 use Rattle.logbook_store.proofs.Answers.{all_but_first, not_all}
 use Rattle.logbook_store.proofs.Found.{has_number}
 use Rattle.logbook_store.proofs.ReadRuns.{reads_then}

@@ -1,8 +1,7 @@
-use Rattle.std.proofs.Common.{◌≡◌, ◌-◌, ◌+◌, ℕ, List, Some, true, option_map, sym, ◌∙◌, ap, arith}
-use Rattle.std.specs.Prelude.{is_some}
+use Rattle.std.proofs.Common.{◌≡◌, ℕ, List, Some, option_map, sym, ◌∙◌, ap, arith}
 use Rattle.apex_model.specs.Image.{greatest}
-use Rattle.logbook_store.specs.Regions.{PlaceEntry, region_at, places_in}
-use Rattle.logbook_store.proofs.Spelled.{all_messages, messages_above, oldest_of}
+use Rattle.logbook_store.specs.Regions.{region_at, places_in}
+use Rattle.logbook_store.proofs.Spelled.{all_messages}
 use Rattle.logbook_store.proofs.places.read_counts.Goals as goal
 
 pub returns-clause-good : goal.returns-clause-good

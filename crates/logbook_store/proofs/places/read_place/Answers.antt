@@ -1,6 +1,5 @@
-use Rattle.std.proofs.Common.{◌≡◌, ◌+◌, ◌*◌, ℕ, List, true, length, ◌==◌, refl, sym, ◌∙◌, ap, arith}
-use Rattle.std.proofs.lemmas.List.{length-replicate}
-use Rattle.rig_core.specs.Bytes.{byte, part}
+use Rattle.std.proofs.Common.{◌≡◌, ◌+◌, ◌*◌, sym, ◌∙◌, ap, arith}
+use Rattle.rig_core.specs.Bytes.{part}
 use Rattle.logbook_store.specs.Regions.{entry_by_bytes}
 use Rattle.logbook_store.proofs.Found.{place_open}
 use Rattle.logbook_store.proofs.places.read_place.Goals as goal

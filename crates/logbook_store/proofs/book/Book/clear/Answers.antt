@@ -1,11 +1,10 @@
-use Rattle.std.proofs.Common.{◌≡◌, ◌⊎◌, inl, inr, ◌+◌, ◌%◌, ◌++◌, ℕ, List, [], Some, length, refl, sym, ◌∙◌, ap, subst, arith}
+use Rattle.std.proofs.Common.{◌≡◌, ◌⊎◌, ◌+◌, ◌%◌, ◌++◌, [], Some, length, refl, sym, ◌∙◌, ap, subst}
 use Rattle.apex_model.specs.Durable.{StoredLogbook}
 use Rattle.apex_model.specs.Fields.{log_header_of}
 use Rattle.rig_core.specs.Bytes.{SameElsewhere}
 use Rattle.rig_core.specs.Leaves.{Leaves, LeavesElsewhere}
 use Rattle.gate_slots.specs.Place.{Place, newest_content, slots_size}
 use Rattle.gate_slots.specs.Slots.{number_of}
-use Rattle.logbook_store.specs.Regions.{headers_at}
 use Rattle.logbook_store.proofs.Cleared.{some_content}
 use Rattle.logbook_store.proofs.Clearing.{body_spells, header_is, clear_leaves, either, after, places_stay}
 use Rattle.logbook_store.proofs.book.Book.clear.Goals as goal

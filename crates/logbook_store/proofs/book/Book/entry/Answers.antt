@@ -1,4 +1,4 @@
-use Rattle.std.proofs.Common.{◌≡◌, ◌+◌, ◌-◌, ◌<◌, ◌≤◌, ℕ, List, Some, length, refl, sym, ◌∙◌, ap, arith}
+use Rattle.std.proofs.Common.{◌≡◌, ◌+◌, ◌-◌, ◌<◌, ◌≤◌, ℕ, List, Some, length, sym, ◌∙◌, ap, arith}
 use Rattle.apex_model.specs.Durable.{StoredLogbook}
 use Rattle.apex_types.specs.declared.replies.EntryState.TheVariants.{Complete}
 use Rattle.apex_types.specs.declared.replies.Values.TheVariants.{Entry}

@@ -1,9 +1,8 @@
-use Rattle.std.proofs.Common.{◌≡◌, ◌+◌, ℕ, List, Option, None, Some, refl, sym, ◌∙◌, ap, subst, arith}
+use Rattle.std.proofs.Common.{◌≡◌, ℕ, List, Option, Some, refl, sym, ◌∙◌, ap, subst}
 use Rattle.std.specs.Prelude.{is_some}
 use Rattle.apex_types.specs.declared.rows.LogbookRow.{LogbookRow}
-use Rattle.apex_model.specs.Durable.{StoredLogbook}
 use Rattle.apex_model.specs.Image.{logbook_of_region}
-use Rattle.logbook_store.specs.Regions.{region_at, places_in, cleared_in, stored_above}
+use Rattle.logbook_store.specs.Regions.{region_at, places_in, stored_above}
 use Rattle.logbook_store.proofs.Spelled.{region_above, above, found_counts}
 use Rattle.logbook_store.proofs.book.Book.mount.Goals as goal
 

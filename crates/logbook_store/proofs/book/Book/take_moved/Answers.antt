@@ -1,4 +1,4 @@
-use Rattle.std.proofs.Common.{◌≡◌, ◌+◌, ◌<◌, ◌≤◌, length, drop, refl, sym, ◌∙◌, ap, arith}
+use Rattle.std.proofs.Common.{◌<◌, length, refl, sym, ◌∙◌, arith}
 use Rattle.logbook_store.proofs.Counted.{after_move}
 use Rattle.logbook_store.proofs.book.Book.take_moved.Goals as goal
 

@@ -1,11 +1,11 @@
-use Rattle.std.proofs.Common.{◌≡◌, ◌+◌, ◌*◌, ◌≤◌, ℕ, List, Some, length, refl, sym, ◌∙◌, ap, subst, arith}
+use Rattle.std.proofs.Common.{◌≡◌, ℕ, List, Some, length, refl, sym, ◌∙◌, ap, subst, arith}
 use Rattle.std.specs.Prelude.{slice_get, slice_index_or}
 use Rattle.std.proofs.lemmas.Option.{slice_get_read}
 use Rattle.rig_core.proofs.Moments.{leaves_elsewhere_wider, elsewhere_wider}
 use Rattle.rig_core.specs.Bytes.{SameElsewhere}
 use Rattle.apex_model.specs.Logbooks.{Logbook, cleared, empty_book}
 use Rattle.logbook_store.specs.Books.{Stands}
-use Rattle.logbook_store.specs.Logs.{Site, site_of, sites_of, size_of, StandFor, AreLaidOut, AreSettled}
+use Rattle.logbook_store.specs.Logs.{site_of, sites_of, StandFor}
 use Rattle.logbook_store.specs.declared.book.Book.{Book}
 use Rattle.logbook_store.proofs.Beside.{site_at, leaves_one, others_same, stands_same, stand_set}
 use Rattle.logbook_store.proofs.Zips.{zip_at, sites_set, same_site, on_ok}

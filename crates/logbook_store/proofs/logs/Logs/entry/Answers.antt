@@ -1,10 +1,9 @@
-use Rattle.std.proofs.Common.{◌≡◌, ◌+◌, ◌<◌, ℕ, List, Some, option_map, length, refl, sym, ◌∙◌, ap, subst, arith}
+use Rattle.std.proofs.Common.{◌≡◌, List, Some, option_map, length, refl, sym, ◌∙◌, ap, subst, arith}
 use Rattle.std.specs.Prelude.{slice_get, slice_index_or}
 use Rattle.std.proofs.lemmas.Option.{slice_get_read, slice_get-map}
-use Rattle.apex_types.specs.declared.fields.LogCounts.{LogCounts}
 use Rattle.apex_model.specs.Logbooks.{Logbook, empty_book}
-use Rattle.logbook_store.specs.Books.{Stands, counts_of}
-use Rattle.logbook_store.specs.Logs.{Site, site_of, sites_of, StandFor}
+use Rattle.logbook_store.specs.Books.{Stands}
+use Rattle.logbook_store.specs.Logs.{site_of, sites_of, StandFor}
 use Rattle.logbook_store.specs.declared.book.Book.{Book}
 use Rattle.logbook_store.proofs.Zips.{zip_at}
 use Rattle.logbook_store.proofs.logs.Logs.entry.Goals as goal

@@ -1,8 +1,7 @@
-use Rattle.std.proofs.Common.{◌≡◌, ◌+◌, ◌*◌, ◌<◌, ◌≤◌, ℕ, List, [], ◌∷◌, ◌++◌, Some, take, map, length, refl, sym, ◌∙◌, ap, subst, arith}
-use Rattle.std.specs.Prelude.{slice_get, Ok}
+use Rattle.std.proofs.Common.{◌≡◌, ◌+◌, ◌*◌, ℕ, List, [], ◌∷◌, ◌++◌, Some, take, length, refl, sym, ◌∙◌, ap, subst, arith}
+use Rattle.std.specs.Prelude.{slice_get}
 use Rattle.std.proofs.lemmas.Option.{slice_get_read}
 use Rattle.apex_types.specs.declared.rows.LogbookRow.{LogbookRow}
-use Rattle.apex_model.specs.Durable.{loaded_book}
 use Rattle.apex_model.specs.Layout.{logbook_start}
 use Rattle.apex_model.specs.Logbooks.{Message}
 use Rattle.logbook_store.specs.Books.{row_of, start_of, life_of, Stands}
