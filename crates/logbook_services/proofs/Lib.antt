@@ -6,3 +6,4 @@ pub mod Rows
 pub mod Kept
 pub mod Served
 pub mod Services
+pub mod Mounted
