@@ -48,7 +48,6 @@ module _ (kept : TreeRegion) (number : ℕ) where
         newest = stands.newest;
         is_newest = stands.is_newest;
         spells = stands.spells;
-        place = stands.place;
         slots = stands.slots;
         version = stands.version;
         named = λ n there some few. still-used kept.table.used number one within n some (stands.named n there some few);
@@ -62,9 +61,10 @@ module _ (kept : TreeRegion) (number : ℕ) where
       -- the region stays in step
       pub step-marked : (V : Type 0) (o : Outside) → InStep V row at o kept → InStep V row at o marked
       step-marked V o step = record {
-        within = record { from = step.within.from; to = step.within.to; few = step.within.few };
+        within = record { place = step.within.place; from = step.within.from; to = step.within.to; few = step.within.few };
         limits = record { files = step.limits.files; directories = step.limits.directories; table = step.limits.table; rooms = step.limits.rooms };
         numbers = numbers-marked step.numbers;
+        good = step.good;
         stands = λ shown. stands-marked o.view (step.stands shown);
         settled = step.settled;
         named = step.named;

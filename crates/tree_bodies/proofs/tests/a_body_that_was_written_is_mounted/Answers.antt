@@ -4,8 +4,8 @@ use Rattle.apex_types.specs.declared.rows.TreeRow.{TreeRow}
 use Rattle.apex_model.specs.Files.{blocks_of}
 use Rattle.apex_model.specs.Image.{are_distinct}
 use Rattle.file_tree.specs.Entries.{TreeValue, stored_of}
+use Rattle.tree_mount.specs.GoodNumbers.{size_blocks, numbers_from, numbers_of_files, HasGoodNumbers}
 use Rattle.tree_mount.specs.Numbers.{most_blocks}
-use Rattle.tree_bodies.specs.Numbers.{size_blocks, numbers_from, numbers_of_files, HasGoodNumbers}
 use Rattle.tree_bodies.proofs.tests.a_body_that_was_written_is_mounted.Goals as goal
 
 module _ (row : TreeRow) (v : TreeValue) (lists : List (List ℕ)) (files : row.files ≡ 2) (quota : row.quota ≡ 4) (first : stored_of v 0 ≡ (600, 5)) (second : stored_of v 1 ≡ (0, 0))

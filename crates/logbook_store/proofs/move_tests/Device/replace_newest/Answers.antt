@@ -12,5 +12,5 @@ replace_newest-requires-clause-size c = if_some (λ (book : Book). length c.args
 
 pub replace_newest-requires-clause-progress : goal.replace_newest-requires-clause-progress
 replace_newest-requires-clause-progress c = if_some (λ (book : Book). 0 < length (progress_of book)) c.self.inside.logs c.args.logbook (λ book at.
-    let known = counted c.self.inside.logs (mem_state c.self.inside.rig).view c.self.invariant.4 c.self.invariant.5 c.args.logbook c.counts.result c.counts.ensures book at in
+    let known = counted c.self.inside.logs (mem_state c.self.inside.rig).view c.self.invariant.4 c.self.invariant.5 c.args.logbook c.counts.result c.counts.ensures.told book at in
     omega (arith, c.if-counts-eq0.false, known.progress))
