@@ -1,5 +1,5 @@
 // Standard input as a source.
-ghost use Rattle.std.specs.Prelude.{◌≡◌, ◌<◌, length, is_ok, if◌then◌else◌};
+ghost use Rattle.std.specs.Prelude.{◌≡◌, ◌<◌, length, is_ok, OnOk, if◌then◌else◌};
 ghost use Rattle.std.specs.Io.{ReadsAtMost};
 ghost use Rattle.std.specs.Io.KnownBytes.{ReadConsumes};
 ghost use Rattle.rig_core.specs.Causes.{HasCause, one_more};
@@ -41,6 +41,7 @@ impl<F: Read> Source for InputSource<F> {
         ensures bound { ReadsAtMost result into.new }
         ensures bytes { ReadConsumes (left_of F.remaining self.old) (left_of F.remaining self.new) result into.new }
         ensures cause { HasCause (faults_of self.old) (faults_of self.new) result }
+        ensures good { OnOk result (faults_of self.new ≡ faults_of self.old) }
         ensures counted { faults_of self.new ≡ (if is_ok result then faults_of self.old else one_more (faults_of self.old)) }
     {
         match read_once(&mut self.reader, into) {
