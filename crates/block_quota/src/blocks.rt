@@ -52,6 +52,14 @@ impl Blocks {
         Ok(Blocks { used, from: 0 })
     }
 
+    /// Makes all blocks free.
+    pub fn clear(&mut self)
+        ensures { self.new ≡ replicate (length self.old) false }
+    {
+        self.used.fill(false);
+        self.from = 0;
+    }
+
     /// Takes the free block with the least number; it is used from then on.
     /// None comes exactly where all are used; nothing changes then.
     pub fn take(&mut self) -> Option<u32>
