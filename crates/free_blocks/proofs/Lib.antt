@@ -1,0 +1,5 @@
+pub mod Charges
+pub mod Marked
+pub mod Places
+pub mod Small
+pub mod Taken

@@ -1,0 +1,10 @@
+//! A data block that no content of a tree has: where no block is free by the marks, they are made anew.
+#![tactic(auto)]
+
+mod marking;
+mod taking;
+
+pub use taking::take_free;
+
+#[cfg(test)]
+mod tests;
