@@ -1,5 +1,6 @@
 pub mod Charges
 pub mod Marked
+pub mod Owned
 pub mod Places
 pub mod Small
 pub mod Taken

@@ -70,7 +70,7 @@ row-none row used = record {
 }
 
 -- a number that is 0, or the known one at its place, is none of a fresh place
-new-where : (known n : ℕ) → 1 ≤ n → (n ≡ known → ⊥) → is_new known n ≡ true
+pub new-where : (known n : ℕ) → 1 ≤ n → (n ≡ known → ⊥) → is_new known n ≡ true
 new-where known n first other = grind (arith, nat_tests)
 
 fresh-more : (known row : List ℕ) (k : ℕ) → fresh_before known row (k + 1) ≡ fresh_before known row k + cond (is_new (get_or known k 0) (get_or row k 0)) 1 0

@@ -1,5 +1,5 @@
 -- The block numbers of files, a row for each file, as they are durable and as they are at present.
-use Rattle.std.specs.Prelude.{◌≡◌, ◌≢◌, ℕ, ◌≤◌, ◌==◌, ◌&&◌, not, Bool, true, List, [], length, slice_index_or, sum_by}
+use Rattle.std.specs.Prelude.{◌≡◌, ◌≢◌, ℕ, ◌≤◌, ◌==◌, ◌&&◌, not, Bool, true, List, [], length, slice_index_or, slice_set, sum_by}
 use Rattle.std.specs.List.{count_by, range_with_len}
 use Rattle.block_quota.specs.Blocks.{is_used}
 
@@ -44,3 +44,12 @@ pub record AreNamedUsed (used : List Bool) (rows : List (List ℕ)) : Type 0 whe
 -- none of the numbers is this one
 abbrev pub AreOthers : ℕ → List (List ℕ) → Type 0
 AreOthers number rows = (f k : ℕ) → number_at rows f k ≢ number
+
+-- with another number at a place of a file
+abbrev pub with_number : List (List ℕ) → ℕ → ℕ → ℕ → List (List ℕ)
+with_number rows f k number = slice_set rows f (slice_set (slice_index_or rows f []) k number)
+
+-- The block of a fresh place is its own: no durable content has it, and no other place of the present one.
+pub record AreApart (durable present : List (List ℕ)) : Type 0 where
+  pub not_durable : (f k : ℕ) → is_fresh durable present f k ≡ true → AreOthers (number_at present f k) durable
+  pub once : (f k g j : ℕ) → is_fresh durable present f k ≡ true → number_at present g j ≡ number_at present f k → (g ≡ f) × (j ≡ k)

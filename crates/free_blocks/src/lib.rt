@@ -2,8 +2,10 @@
 #![tactic(auto)]
 
 mod marking;
+mod owning;
 mod taking;
 
+pub use owning::own_block;
 pub use taking::take_free;
 
 #[cfg(test)]

@@ -4,7 +4,8 @@ ghost use Rattle.tree_mount.specs.Numbers.{with_room};
 ghost use Rattle.free_blocks.specs.Rows.{number_at, AreNamedUsed};
 
 use crate::marking::mark_rows;
-use crate::take_free;
+use crate::{own_block, take_free};
+use apex_types::FileNode;
 use block_quota::Blocks;
 use std::alloc::Global;
 use std::test::Fail;
@@ -77,5 +78,19 @@ fn a_number_in_both_tables_takes_one_block(rt: HostRuntime) -> Result<(), Fail> 
     let used = marks_of(rt.alloc(), &files, &present, &stale)?;
     let mut table = BlockTable { files, used };
     assert_eq!(rt; take_free(&mut table, &present), 4);
+    Ok(())
+}
+
+#[test]
+fn a_present_block_gets_one_of_its_own_once(rt: HostRuntime) -> Result<(), Fail> {
+    let files = one_file(rt.alloc(), &[1, 2])?;
+    let mut present = one_file(rt.alloc(), &[1, 2])?;
+    let none = one_file(rt.alloc(), &[])?;
+    let used = marks_of(rt.alloc(), &files, &present, &none)?;
+    let mut table = BlockTable { files, used };
+    assert_eq!(rt; own_block(&mut table, &mut present, FileNode(0), 1), 3);
+    assert_eq!(rt; own_block(&mut table, &mut present, FileNode(0), 1), 3);
+    assert_eq!(rt; present[0].at(0), 1);
+    assert_eq!(rt; present[0].at(1), 3);
     Ok(())
 }
