@@ -59,11 +59,11 @@ changes_write V K at n long o m sound later told tears view is = subst (λ k. Ch
   view = view;
 })
 
--- bytes at the front of a run that was written
-pub front_written : (at : ℕ) (bytes run old view : List ℕ) → at + length run ≤ length old → length bytes ≤ length run → ((k : ℕ) → k < length bytes → slice_index run k ≡ slice_index bytes k) → view ≡ put at run old
-    → (k : ℕ) → k < length bytes → slice_index view (at + k) ≡ slice_index bytes k
-front_written at bytes run old view fits short same is k low =
+-- a run that was written, which has the bytes of another list
+pub run_written : (at long : ℕ) (bytes run old view : List ℕ) → length run ≡ long → at + long ≤ length old → ((k : ℕ) → k < long → slice_index run k ≡ slice_index bytes k) → view ≡ put at run old
+    → (k : ℕ) → k < long → slice_index view (at + k) ≡ slice_index bytes k
+run_written at long bytes run old view is_long fits same is k low =
     ap (λ (i : List ℕ). slice_index i (at + k)) is
-    ∙ put_within at run old fits (at + k) (omega arith) (omega (arith, low, short))
+    ∙ put_within at run old (omega (arith, is_long, fits)) (at + k) (omega arith) (omega (arith, low, is_long))
     ∙ ap (slice_index run) (omega arith)
     ∙ same k low

@@ -3,15 +3,16 @@ use Rattle.std.proofs.Common.{◌≡◌, ◌⊎◌, inl, inr, ⊎_elim, ℕ, ◌
 use Rattle.std.proofs.lemmas.Bool.{cases_eq}
 use Rattle.std.proofs.lemmas.Grind.{same_number_lists}
 use Rattle.rig_core.specs.Bytes.{byte, put, SameElsewhere}
-use Rattle.rig_core.specs.Outside.{Outside, Now, Sound, OnlyReads}
+use Rattle.rig_core.specs.Outside.{Outside, Now, Sound, Later, OnlyReads}
 use Rattle.rig_core.specs.Leaves.{Leaves, FromNow, LeavesElsewhere, IsAllSettled}
 use Rattle.rig_core.proofs.Moments.{leaves_same, leaves_then, leaves_weaker}
 use Rattle.rig_core.proofs.Put.{put_within, put_elsewhere}
 use Rattle.apex_types.specs.Rows.{Rows}
 use Rattle.apex_model.specs.Layout.{layout_blocks, tree_start, logbook_start}
 use Rattle.image_laws.specs.EmptyImage.{IsClosedAt, IsOpenAt, IsEmptyImage}
-use Rattle.image_laws.proofs.EmptyPlaces.{empty_tree_stays, empty_logbook_stays}
-use Rattle.recover_scan.specs.Format.{HasEmptyParts}
+use Rattle.recover_scan.specs.Format.{ChangesOnly, HasEmptyParts}
+use Rattle.recover_scan.proofs.Changes.{changes_none, changes_then, changes_sync}
+use Rattle.recover_scan.proofs.Fresh.{fresh_tree_empty, fresh_logbook_empty, parts_stay}
 
 -- Closing: an image that is an open one but for its gate is that one, or its gate is closed.
 pub open_stays_or_closes : (old image : List ℕ) → IsOpenAt 0 old → SameElsewhere 0 1 old image → (image ≡ old) ⊎ IsClosedAt 0 image
@@ -45,15 +46,24 @@ closing_leaves V K o m e before after reads settled opened run =
     let is_view : from.0 ≡ o.view = still_settled V K o m before after reads settled from.0 from.1 from.2 ∙ reads.view tells in
     open_stays_or_closes o.view image (opened tells) (subst (λ f. SameElsewhere 0 1 f image) is_view from.3)) run)
 
+-- a read, and then a call that writes the gate
+pub read_changes : (V K : Type 0) (o m : Outside) → Sound V K o → OnlyReads V o m → ChangesOnly V 0 1 o m
+read_changes V K o m sound reads = changes_sync V K 0 1 o o m sound (changes_none V 0 1 o) reads.later reads.told reads.view reads.cuts
+
+pub read_and_set : (V K : Type 0) (o m e : Outside) → Sound V K o → Sound V K m → OnlyReads V o m → Later m e → LeavesElsewhere 0 1 m e → (V → SameElsewhere 0 1 m.view e.view) → ChangesOnly V 0 1 o e
+read_and_set V K o m e before after reads later cuts view = changes_then V K 0 1 o m e after (read_changes V K o m before reads) (record { later = later; cuts = cuts; view = view })
+
 -- Opening: the empty image is there but for its gate.
 pub opens : (table : Rows) (old image : List ℕ) → 512 * layout_blocks table ≤ length old → HasEmptyParts table old → SameElsewhere 0 1 old image → IsOpenAt 0 image → IsEmptyImage table image
-opens table old image long parts same opened = record {
-  long = omega (arith, long, same.long);
-  opened = opened;
-  superblock = λ k low. same.above (512 + k) (omega arith) ∙ parts.superblock k low;
-  trees = λ tree row is. empty_tree_stays row (512 * tree_start table tree) old image (λ k low high. same.above k (omega (arith, low))) (parts.trees tree row is);
-  logbooks = λ logbook row is. empty_logbook_stays row (512 * logbook_start table logbook) old image (λ k low high. same.above k (omega (arith, low))) (parts.logbooks logbook row is);
-}
+opens table old image long before same opened =
+    let parts = parts_stay table old image same before in
+    record {
+      long = omega (arith, long, same.long);
+      opened = opened;
+      superblock = λ k low. parts.superblock k (omega (arith, low, parts.short));
+      trees = λ tree row is. fresh_tree_empty row (512 * tree_start table tree) image (parts.trees tree row is);
+      logbooks = λ logbook row is. fresh_logbook_empty row (512 * logbook_start table logbook) image (parts.logbooks logbook row is);
+    }
 
 abbrev pub ClosedOrEmpty : Rows → List ℕ → Type 0
 ClosedOrEmpty table image = IsClosedAt 0 image ⊎ IsEmptyImage table image
@@ -76,3 +86,11 @@ opened_view table old view long parts is =
     let fits : 0 + length {A = ℕ} (165 ∷ []) ≤ length old = omega (arith, long) in
     let opened : slice_index (put 0 (165 ∷ []) old) 0 ≡ 165 = put_within 0 (165 ∷ []) old fits 0 (omega arith) (omega arith) in
     subst (IsEmptyImage table) (sym is) (opens table old (put 0 (165 ∷ []) old) long parts (put_elsewhere 0 (165 ∷ []) old fits) opened)
+
+pub opened_parts : (table : Rows) (old view : List ℕ) → 1 ≤ length old → HasEmptyParts table old → view ≡ put 0 (165 ∷ []) old → IsOpenAt 0 view × HasEmptyParts table view
+opened_parts table old view long parts is =
+    let fits : 0 + length {A = ℕ} (165 ∷ []) ≤ length old = omega (arith, long) in
+    let opened : slice_index (put 0 (165 ∷ []) old) 0 ≡ 165 = put_within 0 (165 ∷ []) old fits 0 (omega arith) (omega arith) in (
+      ap (λ (i : List ℕ). slice_index i 0) is ∙ opened,
+      subst (HasEmptyParts table) (sym is) (parts_stay table old (put 0 (165 ∷ []) old) (put_elsewhere 0 (165 ∷ []) old fits) parts),
+    )

@@ -1,5 +1,7 @@
 pub mod Changes
+pub mod Fresh
 pub mod Gate
 pub mod Ordered
 pub mod Phases
+pub mod Rest
 pub mod Sizes

@@ -9,7 +9,7 @@ ghost use Rattle.rig_core.specs.Causes.{Rose};
 ghost use Rattle.rig_core.specs.Outside.{AllNow, Later, MakesAtMost};
 ghost use Rattle.rig_core.specs.Leaves.{Leaves, IsAllSettled};
 ghost use Rattle.image_format.specs.Places.{places_of};
-ghost use Rattle.recover_scan.specs.Format.{IsFormatted, OldOrFormatted, FailsFor};
+ghost use Rattle.recover_scan.specs.Format.{KeepsRest, SparesRest, IsWholeEmpty, IsFormatted, OldOrFormatted, FailsFor};
 ghost use Rattle.recover_scan.specs.declared.errors.FormatError.TheVariants.{TooSmall};
 
 use crate::FormatError;
@@ -42,6 +42,8 @@ fn write_image<R: Rig>(
     ensures any_moment { Leaves (OldOrFormatted table.now (R.state rig.old).view) (R.state rig.old) (R.state rig.new) }
     ensures formatted { OnOk result (AllNow (IsFormatted table.now) (R.state rig.new)) }
     ensures shown { R.tells_view → OnOk result (IsFormatted table.now (R.state rig.new).view) }
+    ensures spares { SparesRest R.tells_view table.now (R.state rig.old) (R.state rig.new) }
+    ensures whole { R.tells_view → OnOk result (IsWholeEmpty table.now (R.state rig.old).view (R.state rig.new).view) }
     ensures settled { OnOk result (IsAllSettled (R.state rig.new)) }
     ensures cause { OnErr result (Rose (R.state rig.old).read_faults (R.state rig.new).read_faults ⊎ Rose (R.state rig.old).write_faults (R.state rig.new).write_faults) }
 {
@@ -53,18 +55,24 @@ fn write_image<R: Rig>(
 
 /// Formats a device for a table. At every moment a cut leaves the image as it was, an image that is not formatted,
 /// or the one in which nothing was ever stored, and from `Ok` on it leaves that one. Where no memory is left, or the
-/// device is smaller than the table's image, nothing is written.
+/// device is smaller than the table's image, nothing is written. Of the device it writes the superblock's gate and bytes, the
+/// slots of each tree and the logbooks, with zeros where nothing has to be; the data blocks and all behind the image stay.
 pub fn format<R: Rig>(alloc: Global, rig: &mut R, table: &Table) -> Result<(), FormatError>
     requires accepted { IsAccepted table.now }
     requires settled { IsAllSettled (R.state rig.old) }
 
-    // At every moment the image is as it was, not formatted, or empty.
+    // At every moment the image is as it was, not formatted, or empty, and the data blocks, the bytes behind the superblock's
+    // gate and those behind the table's image are as they were.
     ensures any_moment { Leaves (OldOrFormatted table.now (R.state rig.old).view) (R.state rig.old) (R.state rig.new) }
+    ensures rest { Leaves (KeepsRest table.now (R.state rig.old).view) (R.state rig.old) (R.state rig.new) }
+    ensures rest_shown { R.tells_view → KeepsRest table.now (R.state rig.old).view (R.state rig.new).view }
     ensures told { (R.state rig.new).told ≡ (R.state rig.old).told }
 
-    // From `Ok` on it is empty.
+    // From `Ok` on it is empty, and each of its bytes is the one that it has to be.
     ensures formatted { OnOk result (AllNow (IsFormatted table.now) (R.state rig.new)) }
     ensures shown { R.tells_view → OnOk result (IsFormatted table.now (R.state rig.new).view) }
+    ensures whole { OnOk result (AllNow (IsWholeEmpty table.now (R.state rig.old).view) (R.state rig.new)) }
+    ensures whole_shown { R.tells_view → OnOk result (IsWholeEmpty table.now (R.state rig.old).view (R.state rig.new).view) }
     ensures settled { OnOk result (IsAllSettled (R.state rig.new)) }
 
     ensures later { Later (R.state rig.old) (R.state rig.new) }

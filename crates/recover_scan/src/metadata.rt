@@ -9,7 +9,7 @@ ghost use Rattle.rig_core.specs.Causes.{Rose};
 ghost use Rattle.rig_core.specs.Outside.{MakesAtMost};
 ghost use Rattle.rig_core.specs.Leaves.{IsAllSettled};
 ghost use Rattle.image_format.specs.Places.{places_of};
-ghost use Rattle.recover_scan.specs.Format.{ChangesOnly, HasEmptyTrees, HasEmptyLogbooks, HasEmptyParts};
+ghost use Rattle.recover_scan.specs.Format.{ChangesOnly, SparesRest, HasEmptyTrees, HasEmptyLogbooks, HasEmptyParts};
 
 use crate::regions::{write_logbook, write_superblock, write_tree};
 use crate::runs::{logbook_length, slots_length};
@@ -30,6 +30,7 @@ fn write_trees<R: Rig>(
     requires room { (tree : ℕ) (row : TreeRow) → slice_get table.now.trees tree ≡ Some row → 1024 * slot_blocks row ≤ length buffer.old }
     requires fits { 512 * layout_blocks table.now ≤ (R.state rig.old).size }
     ensures changes { ChangesOnly R.tells_view 16896 (512 * sum_by tree_blocks table.now.trees) (R.state rig.old) (R.state rig.new) }
+    ensures spares { SparesRest R.tells_view table.now (R.state rig.old) (R.state rig.new) }
     ensures made { MakesAtMost (length table.now.trees) 0 0 (R.state rig.old) (R.state rig.new) }
     ensures written { R.tells_view → OnOk result (HasEmptyTrees table.now (R.state rig.new).view) }
     ensures cause { OnErr result (Rose (R.state rig.old).write_faults (R.state rig.new).write_faults) }
@@ -53,6 +54,7 @@ fn write_logbooks<R: Rig>(
     requires room { (logbook : ℕ) (row : LogbookRow) → slice_get table.now.logbooks logbook ≡ Some row → 512 * logbook_blocks row ≤ length buffer.old }
     requires fits { 512 * layout_blocks table.now ≤ (R.state rig.old).size }
     ensures changes { ChangesOnly R.tells_view (512 * logbook_start table.now 0) (512 * sum_by logbook_blocks table.now.logbooks) (R.state rig.old) (R.state rig.new) }
+    ensures spares { SparesRest R.tells_view table.now (R.state rig.old) (R.state rig.new) }
     ensures made { MakesAtMost (length table.now.logbooks) 0 0 (R.state rig.old) (R.state rig.new) }
     ensures written { R.tells_view → OnOk result (HasEmptyLogbooks table.now (R.state rig.new).view) }
     ensures cause { OnErr result (Rose (R.state rig.old).write_faults (R.state rig.new).write_faults) }
@@ -80,6 +82,7 @@ pub(crate) fn write_metadata<R: Rig>(
     requires logbooks { (logbook : ℕ) (row : LogbookRow) → slice_get table.now.logbooks logbook ≡ Some row → 512 * logbook_blocks row ≤ length buffer.old }
     requires fits { 512 * layout_blocks table.now ≤ (R.state rig.old).size }
     ensures changes { ChangesOnly R.tells_view 512 (512 * (layout_blocks table.now - 1)) (R.state rig.old) (R.state rig.new) }
+    ensures spares { SparesRest R.tells_view table.now (R.state rig.old) (R.state rig.new) }
     ensures made { MakesAtMost (1 + length table.now.trees + length table.now.logbooks) 1 0 (R.state rig.old) (R.state rig.new) }
     ensures written { R.tells_view → OnOk result (HasEmptyParts table.now (R.state rig.new).view) }
     ensures settled { OnOk result (IsAllSettled (R.state rig.new)) }

@@ -5,8 +5,7 @@ ghost use Rattle.apex_types.specs.declared.rows.LogbookRow.{LogbookRow};
 ghost use Rattle.apex_model.specs.Layout.{slot_blocks, logbook_blocks};
 ghost use Rattle.rig_core.specs.Causes.{Rose};
 ghost use Rattle.rig_core.specs.Outside.{MakesAtMost};
-ghost use Rattle.image_laws.specs.EmptyImage.{IsEmptyTree, IsEmptyLogbook};
-ghost use Rattle.recover_scan.specs.Format.{ChangesOnly, HasSuperblock};
+ghost use Rattle.recover_scan.specs.Format.{ChangesOnly, HasSuperblock, IsFreshTree, IsFreshLogbook};
 
 use crate::runs::{logbook_run, superblock_run, tree_run};
 use rig_core::{DeviceFault, Rig};
@@ -36,7 +35,7 @@ pub(crate) fn write_tree<R: Rig>(rig: &mut R, at: u64, run: &mut [u8]) -> Result
     requires fits { at + length run.old ≤ (R.state rig.old).size }
     ensures changes { ChangesOnly R.tells_view at (length run.old) (R.state rig.old) (R.state rig.new) }
     ensures made { MakesAtMost 1 0 0 (R.state rig.old) (R.state rig.new) }
-    ensures written { (row : TreeRow) → length run.old ≡ 1024 * slot_blocks row → R.tells_view → OnOk result (IsEmptyTree row at (R.state rig.new).view) }
+    ensures written { (row : TreeRow) → length run.old ≡ 1024 * slot_blocks row → R.tells_view → OnOk result (IsFreshTree row at (R.state rig.new).view) }
     ensures cause { OnErr result (Rose (R.state rig.old).write_faults (R.state rig.new).write_faults) }
 {
     tree_run(run);
@@ -50,7 +49,7 @@ pub(crate) fn write_logbook<R: Rig>(rig: &mut R, at: u64, run: &mut [u8]) -> Res
     requires fits { at + length run.old ≤ (R.state rig.old).size }
     ensures changes { ChangesOnly R.tells_view at (length run.old) (R.state rig.old) (R.state rig.new) }
     ensures made { MakesAtMost 1 0 0 (R.state rig.old) (R.state rig.new) }
-    ensures written { (row : LogbookRow) → length run.old ≡ 512 * logbook_blocks row → R.tells_view → OnOk result (IsEmptyLogbook row at (R.state rig.new).view) }
+    ensures written { (row : LogbookRow) → length run.old ≡ 512 * logbook_blocks row → R.tells_view → OnOk result (IsFreshLogbook row at (R.state rig.new).view) }
     ensures cause { OnErr result (Rose (R.state rig.old).write_faults (R.state rig.new).write_faults) }
 {
     logbook_run(run);

@@ -57,7 +57,7 @@ pub(crate) fn zeros(alloc: Global, n: usize) -> Result<Vec<u8>, OutOfMemory>
 /// Bytes with zeros behind them.
 pub(crate) fn superblock_run(run: &mut [u8], bytes: &[u8])
     requires { length bytes.now ≤ length run.old }
-    ensures { (k : ℕ) → k < length bytes.now → slice_index run.new k ≡ slice_index bytes.now k }
+    ensures { (k : ℕ) → k < length run.old → slice_index run.new k ≡ slice_index bytes.now k }
 {
     run.fill(0);
     run[..bytes.len()].copy_from_slice(bytes);

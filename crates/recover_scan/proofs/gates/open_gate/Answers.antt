@@ -1,5 +1,5 @@
 use Rattle.std.proofs.Common.{arith}
-use Rattle.recover_scan.proofs.Gate.{opening_leaves, opened_view}
+use Rattle.recover_scan.proofs.Gate.{opening_leaves, opened_view, opened_parts}
 use Rattle.recover_scan.proofs.gates.open_gate.Goals as goal
 
 pub returns-in_err-gate_set-clause-opening : goal.returns-in_err-gate_set-clause-opening
@@ -14,3 +14,8 @@ pub returns-clause-opened : goal.returns-clause-opened
 returns-clause-opened g c table fits parts tells =
     opened_view table (g.R.Rig.state c.args.rig.now).view (g.R.Rig.state c.gate_set.new.rig).view
     (omega (arith, fits, (g.met.R.Rig.sound c.args.rig.now).view_fills tells)) (parts tells) (c.in_ok-gate_set.ensures.written tells)
+
+pub returns-clause-whole : goal.returns-clause-whole
+returns-clause-whole g c tells table parts =
+    opened_parts table (g.R.Rig.state c.args.rig.now).view (g.R.Rig.state c.gate_set.new.rig).view
+    (omega (arith, c.requires.some, (g.met.R.Rig.sound c.args.rig.now).view_fills tells)) parts (c.in_ok-gate_set.ensures.written tells)

@@ -2,6 +2,7 @@ use Rattle.std.proofs.Common.{◌≡◌, ◌*◌, ◌<◌, ◌≤◌, ◌∙◌,
 use Rattle.std.proofs.lemmas.Option.{slice_get_within}
 use Rattle.apex_model.specs.Layout.{logbook_blocks, logbook_start}
 use Rattle.recover_scan.proofs.Ordered.{row_at, length-front, logbook_fits, logbook_changes, logbook_empties}
+use Rattle.recover_scan.proofs.Rest.{logbook_spares}
 use Rattle.recover_scan.proofs.metadata.write_logbooks.Goals as goal
 
 pub slice_bounds-run-end : goal.slice_bounds-run-end
@@ -56,6 +57,18 @@ returns-in_err-write_logbook-clause-changes g c =
     logbook_changes g.R.Rig.tells_view g.R.Rig.keeps_cuts c.args.table.now c.loop-logbook.logbook c.logbook_start.result (length (take c.logbook_length.result c.loop-logbook.buffer)) there.0 (g.R.Rig.state c.args.rig.now) (g.R.Rig.state c.loop-logbook.rig) (g.R.Rig.state c.write_logbook.new.rig)
     (g.met.R.Rig.sound c.loop-logbook.rig) there.1 at (front ∙ long) c.loop-logbook.invariant.changes c.write_logbook.ensures.changes
 
+pub returns-in_err-write_logbook-clause-spares : goal.returns-in_err-write_logbook-clause-spares
+returns-in_err-write_logbook-clause-spares g c =
+    let rows = c.args.table.now.logbooks in
+    let low : c.loop-logbook.logbook < length rows = omega (arith, c.loop-logbook-test.true, ap length c.logbooks.ensures) in
+    let there = row_at rows c.loop-logbook.logbook low in
+    let long : c.logbook_length.result ≡ 512 * logbook_blocks there.0 = c.logbook_length.ensures c.args.table.now there.0 c.requires.places there.1 in
+    let room : 512 * logbook_blocks there.0 ≤ length c.args.buffer.now = c.requires.room c.loop-logbook.logbook there.0 there.1 in
+    let front : length (take c.logbook_length.result c.loop-logbook.buffer) ≡ c.logbook_length.result = length-front c.logbook_length.result c.loop-logbook.buffer (omega (arith, long, room)) in
+    let at : c.logbook_start.result ≡ 512 * logbook_start c.args.table.now c.loop-logbook.logbook = c.logbook_start.ensures c.args.table.now c.requires.places in
+    logbook_spares g.R.Rig.tells_view g.R.Rig.keeps_cuts c.args.table.now c.loop-logbook.logbook c.logbook_start.result (length (take c.logbook_length.result c.loop-logbook.buffer)) there.0 (g.R.Rig.state c.args.rig.now) (g.R.Rig.state c.loop-logbook.rig) (g.R.Rig.state c.write_logbook.new.rig)
+    (g.met.R.Rig.sound c.loop-logbook.rig) there.1 at (front ∙ long) c.loop-logbook.invariant.spares c.write_logbook.ensures.changes
+
 pub loop-logbook-preserved : goal.loop-logbook-preserved
 loop-logbook-preserved g c =
     let rows = c.args.table.now.logbooks in
@@ -68,6 +81,8 @@ loop-logbook-preserved g c =
     record {
       changes = logbook_changes g.R.Rig.tells_view g.R.Rig.keeps_cuts c.args.table.now c.loop-logbook.logbook c.logbook_start.result (length (take c.logbook_length.result c.loop-logbook.buffer)) there.0 (g.R.Rig.state c.args.rig.now) (g.R.Rig.state c.loop-logbook.rig) (g.R.Rig.state c.write_logbook.new.rig)
           (g.met.R.Rig.sound c.loop-logbook.rig) there.1 at (front ∙ long) c.loop-logbook.invariant.changes c.write_logbook.ensures.changes;
+      spares = logbook_spares g.R.Rig.tells_view g.R.Rig.keeps_cuts c.args.table.now c.loop-logbook.logbook c.logbook_start.result (length (take c.logbook_length.result c.loop-logbook.buffer)) there.0 (g.R.Rig.state c.args.rig.now) (g.R.Rig.state c.loop-logbook.rig) (g.R.Rig.state c.write_logbook.new.rig)
+          (g.met.R.Rig.sound c.loop-logbook.rig) there.1 at (front ∙ long) c.loop-logbook.invariant.spares c.write_logbook.ensures.changes;
       made = record {
         writes = omega (arith, c.loop-logbook.invariant.made.writes, c.write_logbook.ensures.made.writes);
         syncs = omega (arith, c.loop-logbook.invariant.made.syncs, c.write_logbook.ensures.made.syncs);

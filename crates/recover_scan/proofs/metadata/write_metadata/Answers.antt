@@ -3,6 +3,7 @@ use Rattle.std.proofs.lemmas.List.{places}
 use Rattle.recover_scan.specs.Format.{HasEmptyParts}
 use Rattle.recover_scan.proofs.Changes.{changes_sync}
 use Rattle.recover_scan.proofs.Ordered.{first_change, second_change, third_change, metadata_long, parts_written}
+use Rattle.recover_scan.proofs.Rest.{superblock_written, spares_changes, spares_then, spares_same}
 use Rattle.recover_scan.proofs.Sizes.{few_trees, few_logbooks}
 use Rattle.recover_scan.proofs.metadata.write_metadata.Goals as goal
 
@@ -59,3 +60,35 @@ returns-clause-written g c tells =
     (parts_written c.args.table.now c.args.superblock.now (g.R.Rig.state c.write_superblock.new.rig).view (g.R.Rig.state c.write_trees.new.rig).view (g.R.Rig.state c.write_logbooks.new.rig).view c.requires.superblock short
     (c.in_ok-write_superblock.ensures.written tells) (c.write_trees.ensures.changes.view tells) (c.in_ok-write_trees.ensures.written tells)
     (c.write_logbooks.ensures.changes.view tells) (c.in_ok-write_logbooks.ensures.written tells))
+
+pub returns-in_err-write_superblock-clause-spares : goal.returns-in_err-write_superblock-clause-spares
+returns-in_err-write_superblock-clause-spares g c =
+    let first = spares_changes g.R.Rig.tells_view c.args.table.now 512 16384 (g.R.Rig.state c.args.rig.now) (g.R.Rig.state c.write_superblock.new.rig) (superblock_written c.args.table.now) c.write_superblock.ensures.changes in
+    first
+
+pub returns-in_err-write_trees-clause-spares : goal.returns-in_err-write_trees-clause-spares
+returns-in_err-write_trees-clause-spares g c =
+    let first = spares_changes g.R.Rig.tells_view c.args.table.now 512 16384 (g.R.Rig.state c.args.rig.now) (g.R.Rig.state c.write_superblock.new.rig) (superblock_written c.args.table.now) c.write_superblock.ensures.changes in
+    let second = spares_then g.R.Rig.tells_view g.R.Rig.keeps_cuts c.args.table.now (g.R.Rig.state c.args.rig.now) (g.R.Rig.state c.write_superblock.new.rig) (g.R.Rig.state c.write_trees.new.rig) (g.met.R.Rig.sound c.write_superblock.new.rig) first c.write_trees.ensures.spares in
+    second
+
+pub returns-in_err-write_logbooks-clause-spares : goal.returns-in_err-write_logbooks-clause-spares
+returns-in_err-write_logbooks-clause-spares g c =
+    let first = spares_changes g.R.Rig.tells_view c.args.table.now 512 16384 (g.R.Rig.state c.args.rig.now) (g.R.Rig.state c.write_superblock.new.rig) (superblock_written c.args.table.now) c.write_superblock.ensures.changes in
+    let second = spares_then g.R.Rig.tells_view g.R.Rig.keeps_cuts c.args.table.now (g.R.Rig.state c.args.rig.now) (g.R.Rig.state c.write_superblock.new.rig) (g.R.Rig.state c.write_trees.new.rig) (g.met.R.Rig.sound c.write_superblock.new.rig) first c.write_trees.ensures.spares in
+    let third = spares_then g.R.Rig.tells_view g.R.Rig.keeps_cuts c.args.table.now (g.R.Rig.state c.args.rig.now) (g.R.Rig.state c.write_trees.new.rig) (g.R.Rig.state c.write_logbooks.new.rig) (g.met.R.Rig.sound c.write_trees.new.rig) second c.write_logbooks.ensures.spares in
+    third
+
+pub returns-in_err-sync-clause-spares : goal.returns-in_err-sync-clause-spares
+returns-in_err-sync-clause-spares g c =
+    let first = spares_changes g.R.Rig.tells_view c.args.table.now 512 16384 (g.R.Rig.state c.args.rig.now) (g.R.Rig.state c.write_superblock.new.rig) (superblock_written c.args.table.now) c.write_superblock.ensures.changes in
+    let second = spares_then g.R.Rig.tells_view g.R.Rig.keeps_cuts c.args.table.now (g.R.Rig.state c.args.rig.now) (g.R.Rig.state c.write_superblock.new.rig) (g.R.Rig.state c.write_trees.new.rig) (g.met.R.Rig.sound c.write_superblock.new.rig) first c.write_trees.ensures.spares in
+    let third = spares_then g.R.Rig.tells_view g.R.Rig.keeps_cuts c.args.table.now (g.R.Rig.state c.args.rig.now) (g.R.Rig.state c.write_trees.new.rig) (g.R.Rig.state c.write_logbooks.new.rig) (g.met.R.Rig.sound c.write_trees.new.rig) second c.write_logbooks.ensures.spares in
+    spares_then g.R.Rig.tells_view g.R.Rig.keeps_cuts c.args.table.now (g.R.Rig.state c.args.rig.now) (g.R.Rig.state c.write_logbooks.new.rig) (g.R.Rig.state c.sync.new.self) (g.met.R.Rig.sound c.write_logbooks.new.rig) third (spares_same g.R.Rig.tells_view c.args.table.now (g.R.Rig.state c.write_logbooks.new.rig) (g.R.Rig.state c.sync.new.self) c.sync.ensures.later c.sync.ensures.told c.sync.ensures.view c.sync.ensures.cuts)
+
+pub returns-clause-spares : goal.returns-clause-spares
+returns-clause-spares g c =
+    let first = spares_changes g.R.Rig.tells_view c.args.table.now 512 16384 (g.R.Rig.state c.args.rig.now) (g.R.Rig.state c.write_superblock.new.rig) (superblock_written c.args.table.now) c.write_superblock.ensures.changes in
+    let second = spares_then g.R.Rig.tells_view g.R.Rig.keeps_cuts c.args.table.now (g.R.Rig.state c.args.rig.now) (g.R.Rig.state c.write_superblock.new.rig) (g.R.Rig.state c.write_trees.new.rig) (g.met.R.Rig.sound c.write_superblock.new.rig) first c.write_trees.ensures.spares in
+    let third = spares_then g.R.Rig.tells_view g.R.Rig.keeps_cuts c.args.table.now (g.R.Rig.state c.args.rig.now) (g.R.Rig.state c.write_trees.new.rig) (g.R.Rig.state c.write_logbooks.new.rig) (g.met.R.Rig.sound c.write_trees.new.rig) second c.write_logbooks.ensures.spares in
+    spares_then g.R.Rig.tells_view g.R.Rig.keeps_cuts c.args.table.now (g.R.Rig.state c.args.rig.now) (g.R.Rig.state c.write_logbooks.new.rig) (g.R.Rig.state c.sync.new.self) (g.met.R.Rig.sound c.write_logbooks.new.rig) third (spares_same g.R.Rig.tells_view c.args.table.now (g.R.Rig.state c.write_logbooks.new.rig) (g.R.Rig.state c.sync.new.self) c.sync.ensures.later c.sync.ensures.told c.sync.ensures.view c.sync.ensures.cuts)

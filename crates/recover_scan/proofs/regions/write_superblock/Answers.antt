@@ -1,5 +1,5 @@
 use Rattle.std.proofs.Common.{length, arith}
-use Rattle.recover_scan.proofs.Changes.{changes_write, front_written}
+use Rattle.recover_scan.proofs.Changes.{changes_write, run_written}
 use Rattle.recover_scan.proofs.regions.write_superblock.Goals as goal
 
 pub returns-clause-changes : goal.returns-clause-changes
@@ -14,5 +14,5 @@ returns-in_err-write-clause-changes g c =
 
 pub returns-clause-written : goal.returns-clause-written
 returns-clause-written g c tells =
-    front_written 512 c.args.bytes.now c.superblock_run.new.run (g.R.Rig.state c.args.rig.now).view (g.R.Rig.state c.write.new.self).view
-    (omega (arith, (g.met.R.Rig.sound c.args.rig.now).view_fills tells)) (omega arith) c.superblock_run.ensures (c.in_ok-write.ensures.written tells)
+    run_written 512 16384 c.args.bytes.now c.superblock_run.new.run (g.R.Rig.state c.args.rig.now).view (g.R.Rig.state c.write.new.self).view
+    (omega arith) (omega (arith, (g.met.R.Rig.sound c.args.rig.now).view_fills tells)) (λ k low. c.superblock_run.ensures k (omega (arith, low))) (c.in_ok-write.ensures.written tells)
