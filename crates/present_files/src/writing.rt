@@ -1,0 +1,126 @@
+// Writing present contents.
+ghost use Rattle.std.specs.Prelude.{◌≡◌, ◌≢◌, ◌+◌, ◌-◌, ◌*◌, ◌<◌, ◌≤◌, ℕ, length, max, slice_set, None, OnOk, OnErr};
+ghost use Rattle.apex_model.specs.Files.{blocks_of, written};
+ghost use Rattle.apex_model.specs.Layout.{tree_blocks};
+ghost use Rattle.block_pool.specs.Buffers.{node_of};
+ghost use Rattle.rig_core.specs.Bytes.{put};
+ghost use Rattle.rig_core.specs.Causes.{Rose};
+ghost use Rattle.rig_core.specs.Outside.{OnlyReads};
+ghost use Rattle.tree_changes.specs.InStep.{data_at};
+ghost use Rattle.tree_mount.specs.Numbers.{most_blocks};
+ghost use Rattle.present_files.specs.Present.{IsPresent, changes_of, content_of, free_buffers, number_of, room_bytes, size_of};
+
+use crate::blocks::put_in_block;
+use crate::holding::stand;
+use crate::present::{Present, PresentSize};
+use apex_types::{FileNode, TreeRow};
+use rig_core::{DeviceFault, Rig};
+
+/// Gives a file another size, as one change. The bytes that it gains are those that stand there.
+pub(crate) fn set_size(present: &mut Present, row: &TreeRow, file: FileNode, size: u32)
+    requires present { IsPresent row.now present.old }
+    requires file { file.0 < row.now.files }
+    requires blocks { blocks_of size ≤ most_blocks row.now }
+    requires short { size ≤ 1048576 }
+    requires numbers { (k : ℕ) → blocks_of size ≤ k → number_of present.old file k ≡ 0 }
+    requires buffers { (k : ℕ) → blocks_of size ≤ k → node_of present.old.pool file k ≡ None }
+    requires counted { changes_of present.old file < 4294967295 }
+    ensures sizes { present.new.sizes.items ≡ slice_set present.old.sizes.items file.0 (record { size = size; changes = changes_of present.old file + 1 }) }
+    ensures numbers_stay { present.new.numbers ≡ present.old.numbers }
+    ensures pool_stays { present.new.pool ≡ present.old.pool }
+    ensures present { IsPresent row.now present.new }
+{
+    let known = &mut present.sizes[file.0 as usize];
+    let changes = known.changes + 1;
+    *known = PresentSize { size, changes };
+}
+
+/// Writes bytes over those of a file's blocks, from a place on.
+fn put_blocks<R: Rig>(
+    present: &mut Present,
+    rig: &mut R,
+    row: &TreeRow,
+    at: u64,
+    file: FileNode,
+    from: usize,
+    bytes: &[u8],
+) -> Result<(), DeviceFault>
+    requires fits { at + 512 * tree_blocks row.now ≤ (R.state rig.old).size }
+    requires present { IsPresent row.now present.old }
+    requires file { file.0 < row.now.files }
+    requires within { from + length bytes.now ≤ size_of present.old file }
+    requires short { from + length bytes.now ≤ 1048576 }
+    requires few { length bytes.now ≤ 4096 }
+    requires free { 9 ≤ free_buffers present.old }
+    ensures room { R.tells_view → OnOk result (room_bytes (data_at row.now at (R.state rig.old).view) present.new file
+        ≡ put from bytes.now (room_bytes (data_at row.now at (R.state rig.old).view) present.old file)) }
+    ensures others { (g : FileNode) → g.0 ≢ file.0 → R.tells_view
+        → room_bytes (data_at row.now at (R.state rig.old).view) present.new g ≡ room_bytes (data_at row.now at (R.state rig.old).view) present.old g }
+    ensures present { IsPresent row.now present.new }
+    ensures sizes { present.new.sizes ≡ present.old.sizes }
+    ensures numbers { present.new.numbers ≡ present.old.numbers }
+    ensures free { free_buffers present.old ≤ free_buffers present.new + 9 }
+    ensures reads { OnlyReads R.tells_view (R.state rig.old) (R.state rig.new) }
+    ensures cause { OnErr result (Rose (R.state rig.old).read_faults (R.state rig.new).read_faults) }
+{
+    stand(&present.pool);
+    let end = from + bytes.len();
+    for k in from / 512..end.div_ceil(512) {
+        let start = from.max(512 * k);
+        let stop = end.min(512 * k + 512);
+        let piece = &bytes[start - from..stop - from];
+        put_in_block(
+            present,
+            rig,
+            row,
+            at,
+            file,
+            k as u32,
+            (start - 512 * k) as u32,
+            piece,
+        )?;
+    }
+    Ok(())
+}
+
+/// Writes bytes over those of a file from a place on and beyond its end, as one change. No number of a data block
+/// changes, and no other file. A fault comes only where the rig's read faults rose; the present contents are of no use
+/// then.
+pub fn write<R: Rig>(
+    present: &mut Present,
+    rig: &mut R,
+    row: &TreeRow,
+    at: u64,
+    file: FileNode,
+    from: u32,
+    bytes: &[u8],
+) -> Result<(), DeviceFault>
+    requires fits { at + 512 * tree_blocks row.now ≤ (R.state rig.old).size }
+    requires present { IsPresent row.now present.old }
+    requires file { file.0 < row.now.files }
+    requires start { from ≤ size_of present.old file }
+    requires some { 1 ≤ length bytes.now }
+    requires few { length bytes.now ≤ 4096 }
+    requires blocks { blocks_of (from + length bytes.now) ≤ most_blocks row.now }
+    requires short { from + length bytes.now ≤ 1048576 }
+    requires counted { changes_of present.old file < 4294967295 }
+    requires free { 9 ≤ free_buffers present.old }
+    ensures content { R.tells_view → OnOk result (content_of (data_at row.now at (R.state rig.old).view) present.new file
+        ≡ written (content_of (data_at row.now at (R.state rig.old).view) present.old file) from bytes.now) }
+    ensures others { (g : FileNode) → g.0 ≢ file.0 → R.tells_view
+        → content_of (data_at row.now at (R.state rig.old).view) present.new g ≡ content_of (data_at row.now at (R.state rig.old).view) present.old g }
+    // The size and the change count of the file, and those of the others.
+    ensures sizes { present.new.sizes.items
+        ≡ slice_set present.old.sizes.items file.0 (record { size = max (size_of present.old file) (from + length bytes.now); changes = changes_of present.old file + 1 }) }
+    ensures numbers { present.new.numbers ≡ present.old.numbers }
+    ensures present { IsPresent row.now present.new }
+    ensures free { free_buffers present.old ≤ free_buffers present.new + 9 }
+    ensures reads { OnlyReads R.tells_view (R.state rig.old) (R.state rig.new) }
+    ensures cause { OnErr result (Rose (R.state rig.old).read_faults (R.state rig.new).read_faults) }
+{
+    stand(&present.pool);
+    let end = from + bytes.len() as u32;
+    let size = present.sizes[file.0 as usize].size.max(end);
+    set_size(present, row, file, size);
+    put_blocks(present, rig, row, at, file, from as usize, bytes)
+}
