@@ -1,20 +1,19 @@
 -- A file's durable content is emptied: the numbers of all files stay good ones.
-use Rattle.std.proofs.Common.{◌≡◌, ◌⊎◌, inl, inr, ℕ, zero, suc, ◌+◌, ◌<◌, ◌≤◌, List, [], ◌∷◌, ◌++◌, length, take, replicate, refl, sym, ap, subst, ◌∙◌, Option, Some, nat_le, arith}
+use Rattle.std.proofs.Common.{◌≡◌, ◌⊎◌, inl, inr, ℕ, zero, suc, ◌+◌, ◌-◌, ◌≤◌, List, [], ◌∷◌, length, take, replicate, refl, sym, ap, subst, ◌∙◌, Option, Some, nat_le, arith}
 use Rattle.std.specs.Prelude.{unwrap_or, slice_index_or, slice_set, ◌*◌}
 use Rattle.std.specs.List.{list_all}
-use Rattle.std.proofs.lemmas.List.{length-set}
+use Rattle.std.proofs.lemmas.List.{length-replicate, length-set}
 use Rattle.apex_types.specs.declared.rows.TreeRow.{TreeRow}
 use Rattle.apex_model.specs.Files.{blocks_of}
 use Rattle.apex_model.specs.Image.{are_distinct}
-use Rattle.file_tree.specs.Entries.{TreeValue, slot, stored_of, with_stored}
+use Rattle.file_tree.specs.Entries.{TreeValue, slot, with_stored}
 use Rattle.tree_changes.proofs.CutRows.{placed, zero-at}
 use Rattle.tree_changes.proofs.Forgotten.{numbers-same}
 use Rattle.tree_changes.specs.Rows.{NameUsed}
-use Rattle.block_quota.specs.Blocks.{is_used}
-use Rattle.std.specs.Prelude.{Bool, true}
+use Rattle.std.specs.Prelude.{Bool}
 use Rattle.tree_mount.proofs.GoodNumbers.{good-fewer}
 use Rattle.tree_mount.specs.GoodNumbers.{HasGoodNumbers, size_blocks, numbers_from}
-use Rattle.tree_mount.specs.Numbers.{most_blocks}
+use Rattle.tree_mount.specs.Numbers.{most_blocks, with_room}
 
 -- what is noted of each entry is what was noted, or what is noted now
 noted : (xs : List (Option (ℕ × ℕ))) (f : ℕ) (one : Option (ℕ × ℕ)) (g : ℕ) → (slot (slice_set xs f one) g ≡ slot xs g) ⊎ (slot (slice_set xs f one) g ≡ one)
@@ -70,3 +69,14 @@ zeros-named row used count = record {
   within = λ k. omega (arith, zero-at count k);
   marked = λ k one. absurd (omega (arith, one, zero-at count k));
 }
+
+-- a row of zeros is a good one for an empty content
+module _ (row : TreeRow) (count : ℕ) (numbers : List ℕ) (zeros : numbers ≡ with_room count []) where
+  room : count - 0 ≡ count
+  room = omega arith
+
+  pub good-empty : (v : TreeValue) (rows : List (List ℕ)) (f changes : ℕ) → count ≡ most_blocks row → HasGoodNumbers row v rows → HasGoodNumbers row (with_stored v f 0 changes) (slice_set rows f numbers)
+  good-empty v rows f changes most good = good-emptied row v rows f changes numbers (ap length zeros ∙ length-replicate {A = ℕ} (count - 0) 0 ∙ room ∙ most) good
+
+  pub named-empty : (used : List Bool) → NameUsed row used numbers
+  named-empty used = subst (λ (ns : List ℕ). NameUsed row used ns) (sym zeros) (zeros-named row used (count - 0))

@@ -1,5 +1,5 @@
 -- A region stays in step while numbers behind the durable content of its files are forgotten.
-use Rattle.std.proofs.Common.{◌≡◌, ◌⊎◌, inl, inr, ℕ, zero, suc, ◌+◌, ◌*◌, ◌<◌, ◌≤◌, Bool, true, false, List, [], ◌∷◌, ◌++◌, ◌-◌, length, take, drop, map, nat_le, refl, sym, ap, subst, ◌∙◌, Option, Some, None, arith}
+use Rattle.std.proofs.Common.{◌≡◌, inl, inr, ℕ, zero, suc, ◌+◌, ◌*◌, ◌<◌, ◌≤◌, true, List, [], ◌∷◌, ◌++◌, ◌-◌, length, take, drop, map, nat_le, refl, sym, ap, subst, ◌∙◌, Option, Some, arith}
 use Rattle.std.specs.Prelude.{flat_map, unwrap_or, slice_index_or}
 use Rattle.std.specs.List.{list_all}
 use Rattle.std.proofs.lemmas.Bool.{cases_lt}
@@ -25,7 +25,7 @@ use Rattle.tree_mount.proofs.Overlaid.{stored-slot}
 use Rattle.tree_mount.proofs.Places.{data-long}
 use Rattle.tree_mount.specs.GoodNumbers.{HasGoodNumbers, size_blocks, numbers_from}
 use Rattle.tree_mount.specs.Numbers.{HasNumbers}
-use Rattle.tree_mount.specs.Region.{Spells, StandsFor, stored_node, tree_over, region_at}
+use Rattle.tree_mount.specs.Region.{Spells, StandsFor, stored_node, tree_over}
 use Rattle.tree_mount.specs.declared.region.TreeRegion.{TreeRegion}
 
 -- ---- the bytes of blocks
@@ -92,8 +92,8 @@ numbers-same v f (x ∷ xs) (y ∷ ys) long same =
     let here : f + 0 ≡ f = omega arith in
     let first : take (size_blocks v f) y ≡ take (size_blocks v f) x = subst (λ n. take (size_blocks v n) y ≡ take (size_blocks v n) x) here (same 0) in
     let rest = numbers-same v (f + 1) xs ys (omega (arith, e)) (λ j.
-        let next : f + suc j ≡ f + 1 + j = omega arith in
-        subst (λ n. take (size_blocks v n) (slice_index_or ys j []) ≡ take (size_blocks v n) (slice_index_or xs j [])) next (same (suc j))) in
+    let next : f + suc j ≡ f + 1 + j = omega arith in
+    subst (λ n. take (size_blocks v n) (slice_index_or ys j []) ≡ take (size_blocks v n) (slice_index_or xs j [])) next (same (suc j))) in
     (λ i. first i ++ rest i)
 
 -- the size that names have of an entry

@@ -12,5 +12,6 @@ pub mod Opened
 pub mod Places
 pub mod Ready
 pub mod Recorded
+pub mod Removed
 pub mod Replaced
 pub mod Spelled

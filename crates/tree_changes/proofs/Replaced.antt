@@ -1,5 +1,5 @@
 -- The durable content of a file is replaced in what is kept, before it becomes the region's content.
-use Rattle.std.proofs.Common.{◌≡◌, ℕ, zero, suc, ◌*◌, ◌<◌, ◌≤◌, Bool, true, false, List, [], ◌∷◌, length, sym, ap, subst, ◌∙◌, Option, arith}
+use Rattle.std.proofs.Common.{◌≡◌, ℕ, zero, suc, ◌*◌, ◌<◌, ◌≤◌, Bool, true, List, [], ◌∷◌, length, sym, ap, subst, ◌∙◌, Option, arith}
 use Rattle.std.specs.Prelude.{IsSome, slice_index_or, slice_set}
 use Rattle.std.proofs.lemmas.List.{length-set, get_or-set_same}
 use Rattle.apex_types.specs.declared.rows.TreeRow.{TreeRow}

@@ -3,18 +3,14 @@ ghost use Rattle.apex_model.specs.Layout.{body_blocks, tree_blocks};
 ghost use Rattle.rig_core.specs.Leaves.{IsAllSettled};
 ghost use Rattle.rig_core.specs.MemRig.{mem_state};
 
-use crate::{
-    SizeAndChanges, change_names, commit_slot, forget_row, forget_rows, has_room, mount_settled,
-    record_change, store_file, write_block,
-};
+use crate::{change_names, commit_slot, has_room, mount_settled, record_change, write_block};
 use apex_types::{
-    ByteList, CallKind, DirNode, FailList, FileNode, Name, PartitionId, Path, Readers, RecordField,
-    Spot, TreeRow,
+    ByteList, CallKind, DirNode, FailList, Name, PartitionId, Readers, RecordField, TreeRow,
 };
 use rig_core::{DeviceFault, MemRig, Rig};
 use std::alloc::Global;
 use std::test::Fail;
-use tree_mount::{BlockNumbers, mount};
+use tree_mount::mount;
 
 // Two files, one directory and a quota of 4 blocks: a slot has 66 blocks, and the region 140.
 const REGION: usize = 71680;
@@ -33,7 +29,6 @@ const RECORDS: usize = 1024;
 fn small_row() -> TreeRow
     ensures region { tree_blocks result ≡ 140 }
     ensures body { body_blocks result ≡ 1 }
-    ensures quota { result.quota ≡ 4 }
 {
     TreeRow {
         volume: 0,
@@ -408,138 +403,5 @@ fn an_old_version_is_written_anew(rt: HostRuntime) -> Result<(), Fail> {
     }
     assert_eq!(rt; files_in(alloc, rig.view())?, Some(1));
     assert_eq!(rt; room_in(alloc, rig.view())?, Some(true));
-    Ok(())
-}
-
-// The size, the change count and the first block of the second file, once a region is mounted.
-fn second_file(alloc: Global, image: &[u8]) -> Result<Option<(u32, u32, u32)>, Fail> {
-    let mut rig = rig_of(alloc, image, FailList::new(alloc))?;
-    if rig.size() < REGION as u64 {
-        return Ok(None);
-    }
-    let kept = mount(alloc, &mut rig, &small_row(), 0)?;
-    let (size, changes) = kept.tree.stored(FileNode(1));
-    Ok(Some((size, changes, kept.block(FileNode(1), 0))))
-}
-
-// Makes the file A of the directory D empty, with 6 changes, where it stands there.
-fn with_empty_file<R: Rig>(
-    alloc: Global,
-    rig: &mut R,
-    body: &mut [u8],
-    tail: &[u8],
-) -> Result<bool, DeviceFault>
-    requires fits { 71680 ≤ (R.state rig.old).size }
-    requires settled { IsAllSettled (R.state rig.old) }
-    requires body { length body.old ≡ 512 }
-    requires tail { tail.now ≡ replicate 32768 0 }
-{
-    let row = small_row();
-    let Ok(mut kept) = mount_settled(alloc, rig, &row, 0) else {
-        return Ok(false);
-    };
-    let Ok(path) = Path::read(b"/D/A") else {
-        return Ok(false);
-    };
-    let Ok(Spot::File { node, .. }) = kept.tree.walk(&path) else {
-        return Ok(false);
-    };
-    let Ok(numbers) = BlockNumbers::with_room(alloc, &[], 4) else {
-        return Ok(false);
-    };
-    let stored = SizeAndChanges {
-        size: 0,
-        changes: 6,
-    };
-    store_file(&mut kept, rig, &row, 0, body, tail, node, stored, &numbers)?;
-    Ok(true)
-}
-
-#[test]
-fn a_cut_leaves_the_content_before_or_the_new_one(rt: HostRuntime) -> Result<(), Fail> {
-    let alloc = rt.alloc();
-    let image = region_with_content(alloc)?;
-    assert_eq!(rt; second_file(alloc, &image)?, Some((3, 5, 1)));
-    let mut rig = rig_of(alloc, &image, FailList::new(alloc))?;
-    let mut body = zeros(alloc, 512)?;
-    let tail = zeros(alloc, 32768)?;
-    if rig.size() >= REGION as u64 {
-        assert_eq!(rt;
-            with_empty_file(alloc, &mut rig, &mut body, &tail),
-            Ok(true)
-        );
-    }
-    assert_eq!(rt; rig.made(CallKind::Write), 4);
-    assert_eq!(rt; rig.made(CallKind::Sync), 3);
-    let records = rig.records();
-    assert!(rt; records < 128);
-    assert_eq!(rt; second_file(alloc, rig.view())?, Some((0, 6, 0)));
-    for calls in records.saturating_sub(8)..records + 1 {
-        for left in [Left::Nothing, Left::Everything, Left::EvenBlocks] {
-            let found = cut(alloc, &image, &rig, calls, left)?;
-            let file = second_file(alloc, &found)?;
-            assert!(rt;
-                file == Some((0, 6, 0)) || file == Some((3, 5, 1)) && calls < records,
-                "after {calls} calls with {left:?}"
-            );
-        }
-    }
-    Ok(())
-}
-
-#[test]
-fn a_failing_write_or_sync_of_a_new_content_is_told(rt: HostRuntime) -> Result<(), Fail> {
-    let alloc = rt.alloc();
-    for (kind, count) in [(CallKind::Write, 4), (CallKind::Sync, 3)] {
-        for number in 1..count + 1 {
-            let mut failing = FailList::new(alloc);
-            failing.push(kind, number)?;
-            let image = region_with_content(alloc)?;
-            let mut rig = rig_of(alloc, &image, failing)?;
-            let mut body = zeros(alloc, 512)?;
-            let tail = zeros(alloc, 32768)?;
-            if rig.size() >= REGION as u64 {
-                assert_eq!(rt;
-                    with_empty_file(alloc, &mut rig, &mut body, &tail),
-                    Err(DeviceFault)
-                );
-            }
-        }
-    }
-    Ok(())
-}
-
-// The numbers of both files' first two blocks, once 9 was put behind the first block of the second file and one row, or each, was forgotten.
-fn forgotten(alloc: Global, image: &[u8], each: bool) -> Result<Option<[u32; 4]>, Fail> {
-    let mut rig = rig_of(alloc, image, FailList::new(alloc))?;
-    if rig.size() < REGION as u64 {
-        return Ok(None);
-    }
-    let mut kept = mount(alloc, &mut rig, &small_row(), 0)?;
-    for file in 0..kept.table.files.len() {
-        for k in 1..kept.table.files[file].len() {
-            kept.table.files[file].put(k, 9);
-        }
-    }
-    if !each {
-        forget_row(&mut kept, FileNode(1));
-    } else if kept.table.files.len() < 256 {
-        forget_rows(&mut kept);
-    }
-    let (first, second) = (FileNode(0), FileNode(1));
-    Ok(Some([
-        kept.block(first, 0),
-        kept.block(first, 1),
-        kept.block(second, 0),
-        kept.block(second, 1),
-    ]))
-}
-
-#[test]
-fn numbers_behind_the_content_are_forgotten(rt: HostRuntime) -> Result<(), Fail> {
-    let alloc = rt.alloc();
-    let image = region_with_content(alloc)?;
-    assert_eq!(rt; forgotten(alloc, &image, false)?, Some([0, 9, 1, 0]));
-    assert_eq!(rt; forgotten(alloc, &image, true)?, Some([0, 0, 1, 0]));
     Ok(())
 }

@@ -1,4 +1,4 @@
-use Rattle.std.proofs.Common.{◌≡◌, ℕ, ◌<◌, ◌≤◌, length}
+use Rattle.std.proofs.Common.{◌≡◌, ℕ, ◌<◌, length}
 use Rattle.tree_changes.specs.Rows.{Forgets, EndsWithContent}
 use Rattle.tree_changes.proofs.forgetting.forget_rows.Given as goal
 
