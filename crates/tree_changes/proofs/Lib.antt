@@ -2,11 +2,16 @@ pub mod Beside
 pub mod Changed
 pub mod Committed
 pub mod Contents
+pub mod CutRows
 pub mod Emptied
+pub mod EmptyContent
+pub mod Forgotten
 pub mod Free
 pub mod InTables
 pub mod Opened
 pub mod Places
 pub mod Ready
 pub mod Recorded
+pub mod Removed
+pub mod Replaced
 pub mod Spelled

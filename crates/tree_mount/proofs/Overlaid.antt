@@ -121,7 +121,7 @@ module _ (node : image.Entry → Node StoredFile) (directories : List (Option im
 
 -- ---- what is stored
 
-stored-slot : (files : List (Option image.Entry)) (i : ℕ) (e : image.Entry) → slot files i ≡ Some e → slot (stored_in (named files)) i ≡ Some (length e.stored.content, e.stored.changes)
+pub stored-slot : (files : List (Option image.Entry)) (i : ℕ) (e : image.Entry) → slot files i ≡ Some e → slot (stored_in (named files)) i ≡ Some (length e.stored.content, e.stored.changes)
 stored-slot [] i e h = absurd (not_some h)
 stored-slot (x ∷ files) zero e h = ap (λ (o : Option image.Entry). option_map (λ (entry : Entry). entry.stored) (option_map named_entry o)) h
 stored-slot (x ∷ files) (suc i) e h = stored-slot files i e h

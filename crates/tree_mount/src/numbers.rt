@@ -1,4 +1,4 @@
-ghost use Rattle.std.specs.Prelude.{◌≡◌, ◌<◌, length, IfOk, slice_set, slice_index_or};
+ghost use Rattle.std.specs.Prelude.{◌≡◌, ◌<◌, length, take, IfOk, slice_set, slice_index_or};
 ghost use Rattle.tree_mount.specs.Numbers.{with_room};
 
 use apex_types::OutOfMemory;
@@ -61,5 +61,22 @@ impl BlockNumbers {
         ensures { self.new ≡ slice_set self.old k number }
     {
         self.content[k] = number;
+    }
+
+    /// Takes over the numbers of a list for as many blocks.
+    pub fn copy_from(&mut self, numbers: &BlockNumbers)
+        requires { length self.old ≡ length numbers.now }
+        ensures { self.new ≡ numbers.now }
+    {
+        self.content.copy_from_slice(&numbers.content);
+    }
+
+    /// Makes all numbers 0 but the first so many. There is room for as many blocks as before.
+    pub fn keep_first(&mut self, count: usize)
+        ensures { self.new ≡ with_room (length self.old) (take count self.old) }
+    {
+        if count < self.content.len() {
+            self.content[count..].fill(0);
+        }
     }
 }
