@@ -15,7 +15,7 @@ use Rattle.tree_mount.specs.GoodNumbers.{size_blocks, numbers_from, numbers_of_f
 use Rattle.tree_mount.specs.Numbers.{most_blocks}
 use Rattle.tree_mount.proofs.Contained.{none-in, first-or-rest, behind, in-either, any-in, in-left, in-right, in-place, all-of}
 use Rattle.tree_mount.proofs.Tables.{le-holds}
-use Rattle.tree_changes.specs.Apart.{number_of, with_number, AreApart, AreZeroBehind, IsFreshNumber, AreFreshApart}
+use Rattle.tree_changes.specs.Apart.{number_of, with_number, with_stored_numbers, AreApart, AreZeroBehind, IsFreshNumber, AreFreshApart}
 use Rattle.tree_changes.specs.InStep.{AreOthers}
 
 -- ---- distinct numbers of a list
@@ -305,23 +305,28 @@ set-either (y ∷ xs) (suc i) x d (suc j) = elim (set-either xs i x d j) [
 
 -- ---- a file's present numbers become durable
 
--- the durable numbers with those that a file has at present
-abbrev stored_numbers : List (List ℕ) → List (List ℕ) → ℕ → List (List ℕ)
-stored_numbers durable present f0 = slice_set durable f0 (slice_index_or present f0 [])
-
 -- each file has its durable numbers as before, or is that file and has its present ones
 stored-either : (durable present : List (List ℕ)) (f0 f : ℕ)
-    → ((k : ℕ) → number_of (stored_numbers durable present f0) f k ≡ number_of durable f k)
-    ⊎ ((f ≡ f0) × ((k : ℕ) → number_of (stored_numbers durable present f0) f k ≡ number_of present f k))
+    → ((k : ℕ) → number_of (with_stored_numbers durable present f0) f k ≡ number_of durable f k)
+    ⊎ ((f ≡ f0) × ((k : ℕ) → number_of (with_stored_numbers durable present f0) f k ≡ number_of present f k))
 stored-either durable present f0 f = elim (set-either durable f0 (slice_index_or present f0 []) [] f) [
   | inl same ↦ inl (λ k. ap (λ (list : List ℕ). slice_index_or list k 0) same)
   | inr own ↦ inr (own.0, λ k. ap (λ (list : List ℕ). slice_index_or list k 0) own.1 ∙ ap (λ n. number_of present n k) (sym own.0))
 ]
 
+module _ (durable present : List (List ℕ)) (f0 : ℕ) where
+  -- that file has its present numbers
+  own-numbers : f0 < length durable → (f : ℕ) → f ≡ f0 → (k : ℕ) → number_of (with_stored_numbers durable present f0) f k ≡ number_of present f0 k
+  own-numbers there f is k = ap (λ n. number_of (with_stored_numbers durable present f0) n k) is ∙ ap (λ (list : List ℕ). slice_index_or list k 0) (get_or-set_same durable f0 (slice_index_or present f0 []) [] there)
+
+  -- and another one its durable numbers
+  other-numbers : (f : ℕ) → f ≢ f0 → (k : ℕ) → number_of (with_stored_numbers durable present f0) f k ≡ number_of durable f k
+  other-numbers f other k = ap (λ (list : List ℕ). slice_index_or list k 0) (get_or-set_other durable f0 f (slice_index_or present f0 []) [] other)
+
 -- fresh numbers stay apart from all others
-pub apart-stored : (durable present : List (List ℕ)) (f0 : ℕ) → AreFreshApart durable present → AreFreshApart (stored_numbers durable present f0) present
+pub apart-stored : (durable present : List (List ℕ)) (f0 : ℕ) → AreFreshApart durable present → AreFreshApart (with_stored_numbers durable present f0) present
 apart-stored durable present f0 apart =
-    let stored : List (List ℕ) = stored_numbers durable present f0 in
+    let stored : List (List ℕ) = with_stored_numbers durable present f0 in
     let was_fresh : (f k : ℕ) → IsFreshNumber stored present f k → IsFreshNumber durable present f k
         = λ f k fresh. elim (stored-either durable present f0 f) [
           | inl same ↦ (fresh.0, λ e. fresh.1 (e ∙ sym (same k)))
@@ -349,3 +354,151 @@ size-other v f0 size changes f other = elim (set-either v.stored f0 (Some (size,
 -- and that file has those of its size, if it is one of the tree
 size-own : (v : TreeValue) (f0 size changes : ℕ) → f0 < length v.stored → size_blocks (with_stored v f0 size changes) f0 ≡ blocks_of size
 size-own v f0 size changes there = ap (λ (o : Option (ℕ × ℕ)). blocks_of (unwrap_or o (0, 0)).0) (get_or-set_same v.stored f0 (Some (size, changes)) None there)
+
+module _ (v : TreeValue) (durable present : List (List ℕ)) (f0 : ℕ) (zeros : AreZeroBehind v durable) (fresh_apart : AreFreshApart durable present) where
+  -- a durable number that isn't 0 stands within its file's size
+  within-size : (f k : ℕ) → number_of durable f k ≢ 0 → k < size_blocks v f
+  within-size f k some = elim (cases_lt k (size_blocks v f)) [
+    | inl less ↦ less
+    | inr past ↦ absurd (some (zeros f k past))
+  ]
+
+  module _ (durable_apart : AreApart v durable) (there : f0 < length durable) where
+    -- a number of the file isn't one of another file
+    not-of-another : (k g j : ℕ) → g < length durable → g ≢ f0 → number_of present f0 k ≢ 0 → number_of present f0 k ≡ number_of durable g j → ⊥
+    not-of-another k g j g_there other some same = elim (cases_eq (number_of present f0 k) (number_of durable f0 k)) [
+      | inl old ↦
+          let kept : number_of durable f0 k ≢ 0 = λ z. some (old ∙ z) in
+          let found : number_of durable g j ≢ 0 = λ z. some (same ∙ z) in
+          let place = durable_apart f0 k g j there g_there (within-size f0 k kept) (within-size g j found) kept (sym old ∙ same) in
+          other (sym place.0)
+      | inr new ↦ fresh_apart.never_durable f0 k g j (some, new) (sym same)
+    ]
+
+    -- and stands at no other place of its own
+    at-one-place : (k j : ℕ) → number_of present f0 k ≢ 0 → number_of present f0 k ≡ number_of present f0 j → k ≡ j
+    at-one-place k j some same = elim (cases_eq (number_of present f0 k) (number_of durable f0 k)) [
+      | inr new ↦ sym (fresh_apart.nowhere_else f0 k f0 j (some, new) (sym same)).1
+      | inl old ↦ elim (cases_eq (number_of present f0 j) (number_of durable f0 j)) [
+        | inr new ↦ (fresh_apart.nowhere_else f0 j f0 k (λ z. some (same ∙ z), new) same).1
+        | inl also ↦
+            let kept : number_of durable f0 k ≢ 0 = λ z. some (old ∙ z) in
+            let found : number_of durable f0 j ≢ 0 = λ z. some (same ∙ also ∙ z) in
+            let place = durable_apart f0 k f0 j there there (within-size f0 k kept) (within-size f0 j found) kept (sym old ∙ same ∙ also) in
+            place.1
+      ]
+    ]
+
+    still-apart : (size changes : ℕ) → AreApart (with_stored v f0 size changes) (with_stored_numbers durable present f0)
+    still-apart size changes f k g j f_there g_there k_less j_less some same =
+        let long : length (with_stored_numbers durable present f0) ≡ length durable = length-set durable f0 (slice_index_or present f0 []) in
+        let own = own-numbers durable present f0 there in
+        let another = other-numbers durable present f0 in
+        elim (cases_eq f f0) [
+          | inl f_is ↦ elim (cases_eq g f0) [
+            | inl g_is ↦ (f_is ∙ sym g_is, at-one-place k j (λ z. some (own f f_is k ∙ z)) (sym (own f f_is k) ∙ same ∙ own g g_is j))
+            | inr g_other ↦
+                absurd (not-of-another k g j (omega (arith, g_there, long)) g_other (λ z. some (own f f_is k ∙ z)) (sym (own f f_is k) ∙ same ∙ another g g_other j))
+          ]
+          | inr f_other ↦ elim (cases_eq g f0) [
+            | inl g_is ↦
+                absurd (not-of-another j f k (omega (arith, f_there, long)) f_other (λ z. some (same ∙ own g g_is j ∙ z)) (sym (own g g_is j) ∙ sym same ∙ another f f_other k))
+            | inr g_other ↦
+                let f_size = size-other v f0 size changes f f_other in
+                let g_size = size-other v f0 size changes g g_other in
+                durable_apart f k g j (omega (arith, f_there, long)) (omega (arith, g_there, long)) (omega (arith, k_less, f_size)) (omega (arith, j_less, g_size))
+                (λ z. some (another f f_other k ∙ z)) (sym (another f f_other k) ∙ same ∙ another g g_other j)
+          ]
+        ]
+
+-- behind the size of each file all its numbers are 0 again
+pub zero-stored : (v : TreeValue) (durable present : List (List ℕ)) (f0 size changes : ℕ) → f0 < length durable → f0 < length v.stored → AreZeroBehind v durable
+    → ((k : ℕ) → blocks_of size ≤ k → number_of present f0 k ≡ 0) → AreZeroBehind (with_stored v f0 size changes) (with_stored_numbers durable present f0)
+zero-stored v durable present f0 size changes there entry zeros none f k past = elim (cases_eq f f0) [
+  | inl is ↦
+      let own : size_blocks (with_stored v f0 size changes) f ≡ blocks_of size = ap (size_blocks (with_stored v f0 size changes)) is ∙ size-own v f0 size changes entry in
+      own-numbers durable present f0 there f is k ∙ none k (omega (arith, past, own))
+  | inr other ↦ let same = size-other v f0 size changes f other in other-numbers durable present f0 f other k ∙ zeros f k (omega (arith, past, same))
+]
+
+-- the numbers are good ones again, where a file's present numbers become durable with its size
+pub good-stored : (row : TreeRow) (v : TreeValue) (durable present : List (List ℕ)) (f0 size changes : ℕ) (charges : List ℕ)
+    → HasGoodNumbers row v durable → length durable ≡ row.files → AreZeroBehind v durable → AreFreshApart durable present
+    → f0 < row.files → length (slice_index_or present f0 []) ≡ most_blocks row → ((k : ℕ) → number_of present f0 k ≤ 2 * row.quota)
+    → blocks_of size ≤ most_blocks row
+    → ((f : ℕ) → f < row.files → size_blocks (with_stored v f0 size changes) f ≤ slice_index_or charges f 0) → sum charges ≤ row.quota
+    → HasGoodNumbers row (with_stored v f0 size changes) (with_stored_numbers durable present f0)
+good-stored row v durable present f0 size changes charges good files zeros fresh_apart f0_file room within few charged total =
+    let after : TreeValue = with_stored v f0 size changes in
+    let stored : List (List ℕ) = with_stored_numbers durable present f0 in
+    let there : f0 < length durable = omega (arith, f0_file, files) in
+    let long : length stored ≡ length durable = length-set durable f0 (slice_index_or present f0 []) in
+    let apart = still-apart v durable present f0 zeros fresh_apart (good-apart row v durable good) there size changes in
+    let all_within : (f k : ℕ) → f < row.files → k < size_blocks after f → number_of stored f k ≤ 2 * row.quota
+        = λ f k file less. elim (cases_eq f f0) [
+          | inl is ↦ let same = own-numbers durable present f0 there f is k in omega (arith, same, within k)
+          | inr other ↦
+              let same = other-numbers durable present f0 f other k in
+              let size_is = size-other v f0 size changes f other in
+              omega (arith, same, good-within row v durable good f k (omega (arith, less, size_is)))
+        ] in
+    let rooms : (f : ℕ) → f < row.files → length (slice_index_or stored f []) ≡ most_blocks row
+        = λ f file. elim (set-either durable f0 (slice_index_or present f0 []) [] f) [
+          | inl same ↦ ap length same ∙ good.rooms f file
+          | inr own ↦ ap length own.1 ∙ room
+        ] in
+    let fits : (f : ℕ) → f < row.files → size_blocks after f ≤ most_blocks row
+        = λ f file. elim (set-either v.stored f0 (Some (size, changes)) None f) [
+          | inl same ↦
+              let size_is : size_blocks after f ≡ size_blocks v f = ap (λ (o : Option (ℕ × ℕ)). blocks_of (unwrap_or o (0, 0)).0) same in
+              omega (arith, size_is, good.fits f file)
+          | inr own ↦
+              let size_is : size_blocks after f ≡ blocks_of size = ap (λ (o : Option (ℕ × ℕ)). blocks_of (unwrap_or o (0, 0)).0) own.1 in
+              omega (arith, size_is, few)
+        ] in
+    let sum_fits = numbers-charged row.quota after stored charges (λ f less. charged f (omega (arith, less, long, files))) total in
+    apart-good row after stored (long ∙ files) apart all_within sum_fits rooms fits
+
+-- ---- a present number changes
+
+-- at each place stands the same number as before, or it is that place and has the new one
+number-either : (lists : List (List ℕ)) (f k n g j : ℕ) → (number_of (with_number lists f k n) g j ≡ number_of lists g j) ⊎ ((g ≡ f) × (j ≡ k) × (number_of (with_number lists f k n) g j ≡ n))
+number-either lists f k n g j = elim (set-either lists f (slice_set (slice_index_or lists f []) k n) [] g) [
+  | inl same ↦ inl (ap (λ (list : List ℕ). slice_index_or list j 0) same)
+  | inr own ↦
+      let row_is = ap (λ (list : List ℕ). slice_index_or list j 0) own.1 in
+      elim (set-either (slice_index_or lists f []) k n 0 j) [
+        | inl same ↦ inl (row_is ∙ same ∙ ap (λ h. number_of lists h j) (sym own.0))
+        | inr here ↦ inr (own.0, here.0, row_is ∙ here.1)
+      ]
+]
+
+-- fresh numbers stay apart where the new number is 0 or stands nowhere
+apart-changed : (durable present : List (List ℕ)) (f k n : ℕ) → (n ≢ 0 → AreOthers n durable × AreOthers n present) → AreFreshApart durable present → AreFreshApart durable (with_number present f k n)
+apart-changed durable present f k n nowhere apart = record {
+  never_durable = λ g j h i fresh is. elim (number-either present f k n g j) [
+    | inl same ↦ apart.never_durable g j h i (was_fresh g j fresh same) (is ∙ same)
+    | inr here ↦ (nowhere (λ z. fresh.0 (here.2 ∙ z))).0 h i (is ∙ here.2)
+  ];
+  nowhere_else = λ g j h i fresh is. elim (number-either present f k n g j) [
+    | inl same ↦ elim (number-either present f k n h i) [
+      | inl also ↦ apart.nowhere_else g j h i (was_fresh g j fresh same) (sym also ∙ is ∙ same)
+      | inr there ↦ absurd ((nowhere (λ z. fresh.0 (sym is ∙ there.2 ∙ z))).1 g j (sym same ∙ sym is ∙ there.2))
+    ]
+    | inr here ↦ elim (number-either present f k n h i) [
+      | inl also ↦ absurd ((nowhere (λ z. fresh.0 (here.2 ∙ z))).1 h i (sym also ∙ is ∙ here.2))
+      | inr there ↦ (there.0 ∙ sym here.0, there.1 ∙ sym here.1)
+    ]
+  ];
+}
+  where
+    was_fresh : (g j : ℕ) → IsFreshNumber durable (with_number present f k n) g j → number_of (with_number present f k n) g j ≡ number_of present g j → IsFreshNumber durable present g j
+    was_fresh g j fresh same = (λ z. fresh.0 (same ∙ z), λ e. fresh.1 (same ∙ e))
+
+-- with a number that stands nowhere
+pub apart-fresh : (durable present : List (List ℕ)) (f k n : ℕ) → AreOthers n durable → AreOthers n present → AreFreshApart durable present → AreFreshApart durable (with_number present f k n)
+apart-fresh durable present f k n not_durable not_present = apart-changed durable present f k n (λ some. (not_durable, not_present))
+
+-- and with 0
+pub apart-zero : (durable present : List (List ℕ)) (f k : ℕ) → AreFreshApart durable present → AreFreshApart durable (with_number present f k 0)
+apart-zero durable present f k = apart-changed durable present f k 0 (λ some. absurd (some refl))

@@ -11,6 +11,10 @@ number_of lists f k = slice_index_or (slice_index_or lists f []) k 0
 abbrev pub with_number : List (List ℕ) → ℕ → ℕ → ℕ → List (List ℕ)
 with_number lists f k number = slice_set lists f (slice_set (slice_index_or lists f []) k number)
 
+-- the durable numbers with those that a file has at present
+abbrev pub with_stored_numbers : List (List ℕ) → List (List ℕ) → ℕ → List (List ℕ)
+with_stored_numbers durable present f = slice_set durable f (slice_index_or present f [])
+
 -- within the sizes of a tree's files no number but 0 stands at two places
 abbrev pub AreApart : TreeValue → List (List ℕ) → Type 0
 AreApart v lists = (f k g j : ℕ) → f < length lists → g < length lists → k < size_blocks v f → j < size_blocks v g → number_of lists f k ≢ 0 → number_of lists f k ≡ number_of lists g j → (f ≡ g) × (k ≡ j)
