@@ -15,7 +15,7 @@ use Rattle.tree_mount.specs.GoodNumbers.{size_blocks, numbers_from, numbers_of_f
 use Rattle.tree_mount.specs.Numbers.{most_blocks}
 use Rattle.tree_mount.proofs.Contained.{none-in, first-or-rest, behind, in-either, any-in, in-left, in-right, in-place, all-of}
 use Rattle.tree_mount.proofs.Tables.{le-holds}
-use Rattle.tree_changes.specs.Apart.{number_of, with_number, with_stored_numbers, AreApart, AreZeroBehind, IsFreshNumber, AreFreshApart}
+use Rattle.tree_changes.specs.Apart.{number_of, with_number, with_stored_numbers, AreApart, AreZeroBehind, IsFreshNumber, AreFreshApart, AreWithinSizes}
 use Rattle.tree_changes.specs.InStep.{AreOthers}
 
 -- ---- distinct numbers of a list
@@ -84,9 +84,9 @@ once-distinct : (xs : List ℕ) → AreOnce xs → are_distinct xs ≡ true
 once-distinct [] once = refl
 once-distinct (x ∷ xs) once =
     let single : is_single x xs ≡ true = single-to x xs (λ some there.
-        let p = at-place xs x there in
-        let wrong : 0 ≡ suc p.0 = once 0 (suc p.0) some (sym p.1) in
-        omega (arith, wrong)) in
+    let p = at-place xs x there in
+    let wrong : 0 ≡ suc p.0 = once 0 (suc p.0) some (sym p.1) in
+    omega (arith, wrong)) in
     both-hold (is_single x xs) (are_distinct xs) single
     (once-distinct xs (λ k j some same. let e : suc k ≡ suc j = once (suc k) (suc j) some same in omega (arith, e)))
 
@@ -305,6 +305,13 @@ set-either (y ∷ xs) (suc i) x d (suc j) = elim (set-either xs i x d j) [
 
 -- ---- a file's present numbers become durable
 
+-- at first no number is a fresh one
+pub apart-same : (lists : List (List ℕ)) → AreFreshApart lists lists
+apart-same lists = record {
+  never_durable = λ f k g j fresh. absurd (fresh.1 refl);
+  nowhere_else = λ f k g j fresh. absurd (fresh.1 refl);
+}
+
 -- each file has its durable numbers as before, or is that file and has its present ones
 stored-either : (durable present : List (List ℕ)) (f0 f : ℕ)
     → ((k : ℕ) → number_of (with_stored_numbers durable present f0) f k ≡ number_of durable f k)
@@ -328,10 +335,10 @@ pub apart-stored : (durable present : List (List ℕ)) (f0 : ℕ) → AreFreshAp
 apart-stored durable present f0 apart =
     let stored : List (List ℕ) = with_stored_numbers durable present f0 in
     let was_fresh : (f k : ℕ) → IsFreshNumber stored present f k → IsFreshNumber durable present f k
-        = λ f k fresh. elim (stored-either durable present f0 f) [
-          | inl same ↦ (fresh.0, λ e. fresh.1 (e ∙ sym (same k)))
-          | inr own ↦ absurd (fresh.1 (sym (own.1 k)))
-        ] in
+    = λ f k fresh. elim (stored-either durable present f0 f) [
+      | inl same ↦ (fresh.0, λ e. fresh.1 (e ∙ sym (same k)))
+      | inr own ↦ absurd (fresh.1 (sym (own.1 k)))
+    ] in
     record {
       never_durable = λ f k g j fresh is. elim (stored-either durable present f0 g) [
         | inl same ↦ apart.never_durable f k g j (was_fresh f k fresh) (sym (same j) ∙ is)
@@ -355,61 +362,54 @@ size-other v f0 size changes f other = elim (set-either v.stored f0 (Some (size,
 size-own : (v : TreeValue) (f0 size changes : ℕ) → f0 < length v.stored → size_blocks (with_stored v f0 size changes) f0 ≡ blocks_of size
 size-own v f0 size changes there = ap (λ (o : Option (ℕ × ℕ)). blocks_of (unwrap_or o (0, 0)).0) (get_or-set_same v.stored f0 (Some (size, changes)) None there)
 
-module _ (v : TreeValue) (durable present : List (List ℕ)) (f0 : ℕ) (zeros : AreZeroBehind v durable) (fresh_apart : AreFreshApart durable present) where
-  -- a durable number that isn't 0 stands within its file's size
-  within-size : (f k : ℕ) → number_of durable f k ≢ 0 → k < size_blocks v f
-  within-size f k some = elim (cases_lt k (size_blocks v f)) [
-    | inl less ↦ less
-    | inr past ↦ absurd (some (zeros f k past))
+module _ (v : TreeValue) (durable present : List (List ℕ)) (f0 : ℕ) (sizes : AreWithinSizes v durable present) (fresh_apart : AreFreshApart durable present)
+    (durable_apart : AreApart v durable) (there : f0 < length durable) where
+  -- a number of the file isn't one of another file
+  not-of-another : (k g j : ℕ) → g < length durable → j < size_blocks v g → g ≢ f0 → number_of present f0 k ≢ 0 → number_of present f0 k ≡ number_of durable g j → ⊥
+  not-of-another k g j g_there j_less other some same = elim (cases_eq (number_of present f0 k) (number_of durable f0 k)) [
+    | inl old ↦ other (sym (durable_apart f0 k g j there g_there (sizes f0 k some old) j_less (λ z. some (old ∙ z)) (sym old ∙ same)).0)
+    | inr new ↦ fresh_apart.never_durable f0 k g j (some, new) (sym same)
   ]
 
-  module _ (durable_apart : AreApart v durable) (there : f0 < length durable) where
-    -- a number of the file isn't one of another file
-    not-of-another : (k g j : ℕ) → g < length durable → g ≢ f0 → number_of present f0 k ≢ 0 → number_of present f0 k ≡ number_of durable g j → ⊥
-    not-of-another k g j g_there other some same = elim (cases_eq (number_of present f0 k) (number_of durable f0 k)) [
-      | inl old ↦
-          let kept : number_of durable f0 k ≢ 0 = λ z. some (old ∙ z) in
-          let found : number_of durable g j ≢ 0 = λ z. some (same ∙ z) in
-          let place = durable_apart f0 k g j there g_there (within-size f0 k kept) (within-size g j found) kept (sym old ∙ same) in
-          other (sym place.0)
-      | inr new ↦ fresh_apart.never_durable f0 k g j (some, new) (sym same)
+  -- and stands at no other place of its own
+  at-one-place : (k j : ℕ) → number_of present f0 k ≢ 0 → number_of present f0 k ≡ number_of present f0 j → k ≡ j
+  at-one-place k j some same = elim (cases_eq (number_of present f0 k) (number_of durable f0 k)) [
+    | inr new ↦ sym (fresh_apart.nowhere_else f0 k f0 j (some, new) (sym same)).1
+    | inl old ↦ elim (cases_eq (number_of present f0 j) (number_of durable f0 j)) [
+      | inr new ↦ (fresh_apart.nowhere_else f0 j f0 k (λ z. some (same ∙ z), new) same).1
+      | inl also ↦ (durable_apart f0 k f0 j there there (sizes f0 k some old) (sizes f0 j (λ z. some (same ∙ z)) also) (λ z. some (old ∙ z)) (sym old ∙ same ∙ also)).1
     ]
+  ]
 
-    -- and stands at no other place of its own
-    at-one-place : (k j : ℕ) → number_of present f0 k ≢ 0 → number_of present f0 k ≡ number_of present f0 j → k ≡ j
-    at-one-place k j some same = elim (cases_eq (number_of present f0 k) (number_of durable f0 k)) [
-      | inr new ↦ sym (fresh_apart.nowhere_else f0 k f0 j (some, new) (sym same)).1
-      | inl old ↦ elim (cases_eq (number_of present f0 j) (number_of durable f0 j)) [
-        | inr new ↦ (fresh_apart.nowhere_else f0 j f0 k (λ z. some (same ∙ z), new) same).1
-        | inl also ↦
-            let kept : number_of durable f0 k ≢ 0 = λ z. some (old ∙ z) in
-            let found : number_of durable f0 j ≢ 0 = λ z. some (same ∙ also ∙ z) in
-            let place = durable_apart f0 k f0 j there there (within-size f0 k kept) (within-size f0 j found) kept (sym old ∙ same ∙ also) in
-            place.1
-      ]
-    ]
-
-    still-apart : (size changes : ℕ) → AreApart (with_stored v f0 size changes) (with_stored_numbers durable present f0)
-    still-apart size changes f k g j f_there g_there k_less j_less some same =
-        let long : length (with_stored_numbers durable present f0) ≡ length durable = length-set durable f0 (slice_index_or present f0 []) in
-        let own = own-numbers durable present f0 there in
-        let another = other-numbers durable present f0 in
-        elim (cases_eq f f0) [
-          | inl f_is ↦ elim (cases_eq g f0) [
-            | inl g_is ↦ (f_is ∙ sym g_is, at-one-place k j (λ z. some (own f f_is k ∙ z)) (sym (own f f_is k) ∙ same ∙ own g g_is j))
-            | inr g_other ↦
-                absurd (not-of-another k g j (omega (arith, g_there, long)) g_other (λ z. some (own f f_is k ∙ z)) (sym (own f f_is k) ∙ same ∙ another g g_other j))
-          ]
-          | inr f_other ↦ elim (cases_eq g f0) [
-            | inl g_is ↦
-                absurd (not-of-another j f k (omega (arith, f_there, long)) f_other (λ z. some (same ∙ own g g_is j ∙ z)) (sym (own g g_is j) ∙ sym same ∙ another f f_other k))
-            | inr g_other ↦
-                let f_size = size-other v f0 size changes f f_other in
-                let g_size = size-other v f0 size changes g g_other in
-                durable_apart f k g j (omega (arith, f_there, long)) (omega (arith, g_there, long)) (omega (arith, k_less, f_size)) (omega (arith, j_less, g_size))
-                (λ z. some (another f f_other k ∙ z)) (sym (another f f_other k) ∙ same ∙ another g g_other j)
-          ]
+  -- so no number but 0 stands at two places
+  still-apart : (size changes : ℕ) → AreApart (with_stored v f0 size changes) (with_stored_numbers durable present f0)
+  still-apart size changes f k g j f_there g_there k_less j_less some same =
+      let long : length (with_stored_numbers durable present f0) ≡ length durable = length-set durable f0 (slice_index_or present f0 []) in
+      let own = own-numbers durable present f0 there in
+      let another = other-numbers durable present f0 in
+      let within : (h i : ℕ) → h ≢ f0 → i < size_blocks (with_stored v f0 size changes) h → i < size_blocks v h
+      = λ h i other less. let size_is = size-other v f0 size changes h other in omega (arith, less, size_is) in
+      elim (cases_eq f f0) [
+        | inl f_is ↦ elim (cases_eq g f0) [
+          | inl g_is ↦ (f_is ∙ sym g_is, at-one-place k j (λ z. some (own f f_is k ∙ z)) (sym (own f f_is k) ∙ same ∙ own g g_is j))
+          | inr g_other ↦
+              absurd (not-of-another k g j (omega (arith, g_there, long)) (within g j g_other j_less) g_other (λ z. some (own f f_is k ∙ z)) (sym (own f f_is k) ∙ same ∙ another g g_other j))
         ]
+        | inr f_other ↦ elim (cases_eq g f0) [
+          | inl g_is ↦
+              absurd (not-of-another j f k (omega (arith, f_there, long)) (within f k f_other k_less) f_other (λ z. some (same ∙ own g g_is j ∙ z)) (sym (own g g_is j) ∙ sym same ∙ another f f_other k))
+          | inr g_other ↦
+              durable_apart f k g j (omega (arith, f_there, long)) (omega (arith, g_there, long)) (within f k f_other k_less) (within g j g_other j_less)
+              (λ z. some (another f f_other k ∙ z)) (sym (another f f_other k) ∙ same ∙ another g g_other j)
+        ]
+      ]
+
+-- where the durable numbers behind each size are 0, those that files still have stand within the sizes
+pub zero-within : (v : TreeValue) (durable present : List (List ℕ)) → AreZeroBehind v durable → AreWithinSizes v durable present
+zero-within v durable present zeros f k some old = elim (cases_lt k (size_blocks v f)) [
+  | inl less ↦ less
+  | inr past ↦ absurd (some (old ∙ zeros f k past))
+]
 
 -- behind the size of each file all its numbers are 0 again
 pub zero-stored : (v : TreeValue) (durable present : List (List ℕ)) (f0 size changes : ℕ) → f0 < length durable → f0 < length v.stored → AreZeroBehind v durable
@@ -421,43 +421,69 @@ zero-stored v durable present f0 size changes there entry zeros none f k past = 
   | inr other ↦ let same = size-other v f0 size changes f other in other-numbers durable present f0 f other k ∙ zeros f k (omega (arith, past, same))
 ]
 
+-- what files still have of the durable numbers stands within the sizes again
+pub within-stored : (v : TreeValue) (durable present : List (List ℕ)) (f0 size changes : ℕ) → f0 < length v.stored → AreWithinSizes v durable present
+    → ((k : ℕ) → blocks_of size ≤ k → number_of present f0 k ≡ 0) → AreWithinSizes (with_stored v f0 size changes) (with_stored_numbers durable present f0) present
+within-stored v durable present f0 size changes entry sizes none f k some old = elim (cases_eq f f0) [
+  | inl is ↦ elim (cases_lt k (blocks_of size)) [
+    | inl less ↦
+        let own : size_blocks (with_stored v f0 size changes) f ≡ blocks_of size = ap (size_blocks (with_stored v f0 size changes)) is ∙ size-own v f0 size changes entry in
+        omega (arith, less, own)
+    | inr past ↦ absurd (some (ap (λ n. number_of present n k) is ∙ none k past))
+  ]
+  | inr other ↦
+      let same = size-other v f0 size changes f other in
+      let less = sizes f k some (old ∙ other-numbers durable present f0 f other k) in
+      omega (arith, less, same)
+]
+
 -- the numbers are good ones again, where a file's present numbers become durable with its size
+pub good-stored-within : (row : TreeRow) (v : TreeValue) (durable present : List (List ℕ)) (f0 size changes : ℕ) (charges : List ℕ)
+    → HasGoodNumbers row v durable → length durable ≡ row.files → AreWithinSizes v durable present → AreFreshApart durable present
+    → f0 < row.files → length (slice_index_or present f0 []) ≡ most_blocks row → ((k : ℕ) → number_of present f0 k ≤ 2 * row.quota)
+    → blocks_of size ≤ most_blocks row
+    → ((f : ℕ) → f < row.files → size_blocks (with_stored v f0 size changes) f ≤ slice_index_or charges f 0) → sum charges ≤ row.quota
+    → HasGoodNumbers row (with_stored v f0 size changes) (with_stored_numbers durable present f0)
+good-stored-within row v durable present f0 size changes charges good files sizes fresh_apart f0_file room within few charged total =
+    let after : TreeValue = with_stored v f0 size changes in
+    let stored : List (List ℕ) = with_stored_numbers durable present f0 in
+    let there : f0 < length durable = omega (arith, f0_file, files) in
+    let long : length stored ≡ length durable = length-set durable f0 (slice_index_or present f0 []) in
+    let apart = still-apart v durable present f0 sizes fresh_apart (good-apart row v durable good) there size changes in
+    let all_within : (f k : ℕ) → f < row.files → k < size_blocks after f → number_of stored f k ≤ 2 * row.quota
+    = λ f k file less. elim (cases_eq f f0) [
+      | inl is ↦ let same = own-numbers durable present f0 there f is k in omega (arith, same, within k)
+      | inr other ↦
+          let same = other-numbers durable present f0 f other k in
+          let size_is = size-other v f0 size changes f other in
+          omega (arith, same, good-within row v durable good f k (omega (arith, less, size_is)))
+    ] in
+    let rooms : (f : ℕ) → f < row.files → length (slice_index_or stored f []) ≡ most_blocks row
+    = λ f file. elim (set-either durable f0 (slice_index_or present f0 []) [] f) [
+      | inl same ↦ ap length same ∙ good.rooms f file
+      | inr own ↦ ap length own.1 ∙ room
+    ] in
+    let fits : (f : ℕ) → f < row.files → size_blocks after f ≤ most_blocks row
+    = λ f file. elim (set-either v.stored f0 (Some (size, changes)) None f) [
+      | inl same ↦
+          let size_is : size_blocks after f ≡ size_blocks v f = ap (λ (o : Option (ℕ × ℕ)). blocks_of (unwrap_or o (0, 0)).0) same in
+          omega (arith, size_is, good.fits f file)
+      | inr own ↦
+          let size_is : size_blocks after f ≡ blocks_of size = ap (λ (o : Option (ℕ × ℕ)). blocks_of (unwrap_or o (0, 0)).0) own.1 in
+          omega (arith, size_is, few)
+    ] in
+    let sum_fits = numbers-charged row.quota after stored charges (λ f less. charged f (omega (arith, less, long, files))) total in
+    apart-good row after stored (long ∙ files) apart all_within sum_fits rooms fits
+
+-- the same where the durable numbers behind each size are 0
 pub good-stored : (row : TreeRow) (v : TreeValue) (durable present : List (List ℕ)) (f0 size changes : ℕ) (charges : List ℕ)
     → HasGoodNumbers row v durable → length durable ≡ row.files → AreZeroBehind v durable → AreFreshApart durable present
     → f0 < row.files → length (slice_index_or present f0 []) ≡ most_blocks row → ((k : ℕ) → number_of present f0 k ≤ 2 * row.quota)
     → blocks_of size ≤ most_blocks row
     → ((f : ℕ) → f < row.files → size_blocks (with_stored v f0 size changes) f ≤ slice_index_or charges f 0) → sum charges ≤ row.quota
     → HasGoodNumbers row (with_stored v f0 size changes) (with_stored_numbers durable present f0)
-good-stored row v durable present f0 size changes charges good files zeros fresh_apart f0_file room within few charged total =
-    let after : TreeValue = with_stored v f0 size changes in
-    let stored : List (List ℕ) = with_stored_numbers durable present f0 in
-    let there : f0 < length durable = omega (arith, f0_file, files) in
-    let long : length stored ≡ length durable = length-set durable f0 (slice_index_or present f0 []) in
-    let apart = still-apart v durable present f0 zeros fresh_apart (good-apart row v durable good) there size changes in
-    let all_within : (f k : ℕ) → f < row.files → k < size_blocks after f → number_of stored f k ≤ 2 * row.quota
-        = λ f k file less. elim (cases_eq f f0) [
-          | inl is ↦ let same = own-numbers durable present f0 there f is k in omega (arith, same, within k)
-          | inr other ↦
-              let same = other-numbers durable present f0 f other k in
-              let size_is = size-other v f0 size changes f other in
-              omega (arith, same, good-within row v durable good f k (omega (arith, less, size_is)))
-        ] in
-    let rooms : (f : ℕ) → f < row.files → length (slice_index_or stored f []) ≡ most_blocks row
-        = λ f file. elim (set-either durable f0 (slice_index_or present f0 []) [] f) [
-          | inl same ↦ ap length same ∙ good.rooms f file
-          | inr own ↦ ap length own.1 ∙ room
-        ] in
-    let fits : (f : ℕ) → f < row.files → size_blocks after f ≤ most_blocks row
-        = λ f file. elim (set-either v.stored f0 (Some (size, changes)) None f) [
-          | inl same ↦
-              let size_is : size_blocks after f ≡ size_blocks v f = ap (λ (o : Option (ℕ × ℕ)). blocks_of (unwrap_or o (0, 0)).0) same in
-              omega (arith, size_is, good.fits f file)
-          | inr own ↦
-              let size_is : size_blocks after f ≡ blocks_of size = ap (λ (o : Option (ℕ × ℕ)). blocks_of (unwrap_or o (0, 0)).0) own.1 in
-              omega (arith, size_is, few)
-        ] in
-    let sum_fits = numbers-charged row.quota after stored charges (λ f less. charged f (omega (arith, less, long, files))) total in
-    apart-good row after stored (long ∙ files) apart all_within sum_fits rooms fits
+good-stored row v durable present f0 size changes charges good files zeros =
+    good-stored-within row v durable present f0 size changes charges good files (zero-within v durable present zeros)
 
 -- ---- a present number changes
 
@@ -502,3 +528,10 @@ apart-fresh durable present f k n not_durable not_present = apart-changed durabl
 -- and with 0
 pub apart-zero : (durable present : List (List ℕ)) (f k : ℕ) → AreFreshApart durable present → AreFreshApart durable (with_number present f k 0)
 apart-zero durable present f k = apart-changed durable present f k 0 (λ some. absurd (some refl))
+
+-- what files still have of the durable numbers stands within the sizes, with a number that is 0 or isn't a durable one
+pub within-changed : (v : TreeValue) (durable present : List (List ℕ)) (f k n : ℕ) → (n ≢ 0 → AreOthers n durable) → AreWithinSizes v durable present → AreWithinSizes v durable (with_number present f k n)
+within-changed v durable present f k n nowhere sizes g j some old = elim (number-either present f k n g j) [
+  | inl same ↦ sizes g j (λ z. some (same ∙ z)) (sym same ∙ old)
+  | inr here ↦ absurd (nowhere (λ z. some (here.2 ∙ z)) g j (sym old ∙ here.2))
+]

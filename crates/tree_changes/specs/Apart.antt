@@ -33,3 +33,7 @@ pub record AreFreshApart (durable present : List (List ℕ)) : Type 0 where
   pub never_durable : (f k g j : ℕ) → IsFreshNumber durable present f k → number_of durable g j ≢ number_of present f k
   -- where a present number is a fresh one, it stands at that one's place
   pub nowhere_else : (f k g j : ℕ) → IsFreshNumber durable present f k → number_of present g j ≡ number_of present f k → (g ≡ f) × (j ≡ k)
+
+-- the durable numbers that files still have at present stand within the durable sizes
+abbrev pub AreWithinSizes : TreeValue → List (List ℕ) → List (List ℕ) → Type 0
+AreWithinSizes v durable present = (f k : ℕ) → number_of present f k ≢ 0 → number_of present f k ≡ number_of durable f k → k < size_blocks v f
