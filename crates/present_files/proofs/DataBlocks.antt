@@ -1,5 +1,5 @@
 -- Which part of an image a data block is.
-use Rattle.std.proofs.Common.{◌≡◌, ℕ, ◌+◌, ◌-◌, ◌*◌, ◌<◌, ◌≤◌, ◌==◌, List, length, take, drop, replicate, sym, ap, ◌∙◌, inl, inr, arith, rules}
+use Rattle.std.proofs.Common.{◌≡◌, ℕ, ◌+◌, ◌-◌, ◌*◌, ◌≤◌, ◌==◌, List, length, take, drop, replicate, sym, ap, ◌∙◌, inl, inr, arith}
 use Rattle.std.proofs.lemmas.Bool.{ne_eqb, eq-eqb, cond-false, cond-true, cases_eq}
 use Rattle.std.proofs.lemmas.List.{drop-drop, drop-take, take-take, take-replicate, drop-replicate, length-replicate}
 use Rattle.apex_types.specs.declared.rows.TreeRow.{TreeRow}

@@ -1,8 +1,8 @@
 -- Which node holds a block, and with which bytes, once a node took a block, was made free or was written.
-use Rattle.std.proofs.Common.{◌≡◌, ◌≢◌, ℕ, zero, suc, ◌+◌, ◌<◌, ◌≤◌, ◌==◌, ◌&&◌, Bool, true, false, cond, List, [], ◌∷◌, ◌++◌, map, length, set, take, drop, replicate, get_or, Option, Some, None, refl, sym, ap, ◌∙◌, subst, inl, inr, arith, rules, length-set, get_or-set_same, get_or-set_other}
+use Rattle.std.proofs.Common.{◌≡◌, ◌≢◌, ℕ, zero, suc, ◌+◌, ◌<◌, ◌≤◌, ◌==◌, Bool, true, false, cond, List, [], ◌∷◌, ◌++◌, map, length, set, take, replicate, get_or, Option, Some, None, refl, sym, ap, ◌∙◌, subst, inl, inr, arith, length-set, get_or-set_same, get_or-set_other}
 use Rattle.std.specs.Prelude.{IsSome, position, nat_lt, slice_index_or}
 use Rattle.std.specs.List.{AllByRecursion, position_or_len}
-use Rattle.std.proofs.lemmas.Bool.{cases_eq, cases_lt, lt-ltb, le-ltb, and_parts, eqb-true, cond-true, cond-false, false≢true}
+use Rattle.std.proofs.lemmas.Bool.{cases_eq, lt-ltb, le-ltb, and_parts, eqb-true, cond-true, cond-false, false≢true}
 use Rattle.std.proofs.lemmas.Bool.Decides.{nat_tests}
 use Rattle.std.proofs.lemmas.List.{length-replicate, length-map, get_or-map, take_all, append-nil, drop_all, length-append}
 use Rattle.std.proofs.lemmas.List.Folds.{position_or_len-set}
@@ -10,10 +10,10 @@ use Rattle.std.proofs.lemmas.List.Quantifiers.{position-Some}
 use Rattle.std.proofs.lemmas.List.Sums.{position_or_len_is}
 use Rattle.apex_types.specs.declared.numbers.FileNode.{FileNode}
 use Rattle.block_pool.specs.declared.buffers.Block.{Block}
-use Rattle.block_pool.specs.Lists.{list_at, node_count, without, moved, times, first_of, HoldsEachOnce}
-use Rattle.block_pool.specs.Buffers.{Buffers, AreBuffers, block_at, holds_block, list_of_block, node_of, without_file, with_taken, with_released, with_file_released, with_bytes, written_over}
+use Rattle.block_pool.specs.Lists.{list_at, node_count, without, moved, first_of}
+use Rattle.block_pool.specs.Buffers.{Buffers, AreBuffers, block_at, holds_block, list_of_block, node_of, with_taken, with_released, with_bytes, written_over}
 use Rattle.block_pool.proofs.Counts.{count_of, length-without, part_le}
-use Rattle.block_pool.proofs.Held.{not_held, held_itself, list_of_no_block, block_at-map}
+use Rattle.block_pool.proofs.Held.{not_held, held_itself, list_of_no_block}
 use Rattle.present_files.specs.Nodes.{IsOther, OthersStay, bytes_of, free_in, held_or}
 
 -- ---- first places

@@ -1,7 +1,7 @@
 -- The blocks of a file, one behind the other, once one of them was changed.
-use Rattle.std.proofs.Common.{◌≡◌, ◌≢◌, ◌⊎◌, ℕ, zero, suc, ◌+◌, ◌-◌, ◌*◌, ◌<◌, ◌≤◌, List, [], ◌∷◌, ◌++◌, length, take, replicate, get_or, Option, Some, None, refl, sym, ap, ◌∙◌, subst, inl, inr, ⊎_elim, arith, rules}
+use Rattle.std.proofs.Common.{◌≡◌, ◌≢◌, ◌⊎◌, ℕ, suc, ◌+◌, ◌*◌, ◌<◌, ◌≤◌, List, [], ◌∷◌, ◌++◌, length, take, get_or, Option, Some, None, refl, sym, ap, ◌∙◌, subst, inl, inr, ⊎_elim, arith}
 use Rattle.std.specs.Prelude.{IsSome, slice_index_or}
-use Rattle.std.specs.List.{AllByRecursion, flat_map, range_with_len}
+use Rattle.std.specs.List.{flat_map}
 use Rattle.std.proofs.lemmas.Bool.{cases_eq}
 use Rattle.std.proofs.lemmas.List.{get_or_read}
 use Rattle.apex_types.specs.declared.numbers.FileNode.{FileNode}
@@ -12,7 +12,7 @@ use Rattle.apex_model.specs.Layout.{tree_blocks}
 use Rattle.block_pool.specs.Buffers.{Buffers, AreBuffers, node_of}
 use Rattle.rig_core.specs.Bytes.{byte, put}
 use Rattle.tree_changes.specs.InStep.{data_at}
-use Rattle.present_files.specs.Nodes.{IsOther, OthersStay, bytes_of, held_or}
+use Rattle.present_files.specs.Nodes.{IsOther, OthersStay, bytes_of}
 use Rattle.present_files.specs.Present.{ArePresent, block_in, number_in, room_in, row_length, size_in}
 use Rattle.present_files.specs.declared.present.PresentSize.{PresentSize}
 use Rattle.present_files.proofs.DataBlocks.{block-long}

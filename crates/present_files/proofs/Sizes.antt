@@ -1,6 +1,6 @@
 -- Sizes of files, once one of them has another.
 use Rattle.std.proofs.lemmas.List.{get_or_read}
-use Rattle.std.proofs.Common.{◌≡◌, ◌≢◌, ℕ, ◌+◌, ◌*◌, ◌<◌, ◌≤◌, List, length, set, get_or, Option, Some, None, refl, sym, ap, ◌∙◌, subst, inl, inr, arith, length-set, get_or-set_same, get_or-set_other}
+use Rattle.std.proofs.Common.{◌≡◌, ◌≢◌, ℕ, ◌<◌, ◌≤◌, List, length, set, get_or, Option, Some, None, refl, sym, ap, ◌∙◌, subst, inl, inr, arith, length-set, get_or-set_same, get_or-set_other}
 use Rattle.std.specs.Prelude.{IsSome}
 use Rattle.std.proofs.lemmas.Bool.{cases_eq, cases_lt}
 use Rattle.apex_types.specs.declared.numbers.FileNode.{FileNode}
@@ -8,7 +8,7 @@ use Rattle.apex_types.specs.declared.rows.TreeRow.{TreeRow}
 use Rattle.apex_model.specs.Files.{blocks_of}
 use Rattle.block_pool.specs.Buffers.{Buffers, node_of}
 use Rattle.tree_mount.specs.Numbers.{most_blocks}
-use Rattle.present_files.specs.Present.{ArePresent, never_changed, number_in, size_in, changes_in}
+use Rattle.present_files.specs.Present.{ArePresent, never_changed, number_in, size_in}
 use Rattle.present_files.specs.declared.present.PresentSize.{PresentSize}
 use Rattle.present_files.proofs.Rooms.{same-file}
 

@@ -1,5 +1,5 @@
 -- What the nodes of a pool hold, block by block.
-use Rattle.std.specs.Prelude.{ℕ, ◌≡◌, ◌≤◌, List, length, replicate, Option, Some, None, slice_index_or}
+use Rattle.std.specs.Prelude.{ℕ, ◌≡◌, List, length, replicate, Option, Some, None, slice_index_or}
 use Rattle.apex_types.specs.declared.numbers.FileNode.{FileNode}
 use Rattle.block_pool.specs.Buffers.{Buffers, node_of}
 use Rattle.block_pool.specs.Lists.{list_at}

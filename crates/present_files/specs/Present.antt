@@ -1,5 +1,5 @@
 -- The present contents of a tree's files, over the data blocks of a region and the buffers of a pool.
-use Rattle.std.specs.Prelude.{ℕ, ◌≡◌, ◌+◌, ◌*◌, ◌<◌, ◌≤◌, List, [], length, take, Option, Some, IsSome, slice_index_or}
+use Rattle.std.specs.Prelude.{ℕ, ◌≡◌, ◌+◌, ◌*◌, ◌<◌, ◌≤◌, List, [], length, take, IsSome, slice_index_or}
 use Rattle.std.specs.List.{flat_map, range_with_len}
 use Rattle.apex_types.specs.declared.numbers.FileNode.{FileNode}
 use Rattle.apex_types.specs.declared.rows.TreeRow.{TreeRow}

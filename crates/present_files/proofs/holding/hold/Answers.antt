@@ -1,8 +1,8 @@
-use Rattle.std.proofs.Common.{◌≡◌, ◌+◌, ◌*◌, ◌≤◌, List, length, take, Option, Some, None, subst, sym, ap, ◌∙◌, arith}
+use Rattle.std.proofs.Common.{◌≡◌, ◌+◌, ◌*◌, ◌≤◌, length, None, sym, ap, ◌∙◌, arith}
 use Rattle.std.proofs.lemmas.List.{take_all}
 use Rattle.apex_model.specs.Image.{data_block}
 use Rattle.apex_model.specs.Layout.{tree_blocks}
-use Rattle.block_pool.specs.Buffers.{Buffers, node_of}
+use Rattle.block_pool.specs.Buffers.{node_of}
 use Rattle.tree_changes.specs.InStep.{data_at}
 use Rattle.present_files.specs.Nodes.{bytes_of}
 use Rattle.present_files.proofs.DataBlocks.{block-long}

@@ -1,4 +1,4 @@
-use Rattle.std.proofs.Common.{◌≡◌, ◌≤◌, Some, None, subst, sym, ap, ◌∙◌}
+use Rattle.std.proofs.Common.{◌≤◌, subst, sym, ap, ◌∙◌}
 use Rattle.block_pool.specs.Buffers.{Buffers, node_of}
 use Rattle.present_files.specs.Nodes.{OthersStay, free_in}
 use Rattle.present_files.proofs.HeldBlocks.{free-released, gone-released, others-released}

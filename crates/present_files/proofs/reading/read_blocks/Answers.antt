@@ -1,7 +1,7 @@
-use Rattle.std.proofs.Common.{◌≡◌, ℕ, ◌+◌, ◌-◌, ◌*◌, ◌<◌, ◌≤◌, List, length, take, drop, ext_get_or, sym, ap, ◌∙◌, arith}
+use Rattle.std.proofs.Common.{◌≡◌, ◌+◌, ◌-◌, ◌*◌, ◌<◌, ◌≤◌, length, take, drop, ext_get_or, sym, ◌∙◌, arith}
 use Rattle.std.proofs.lemmas.List.{length-drop, length-take}
 use Rattle.apex_model.specs.Layout.{tree_blocks}
-use Rattle.rig_core.specs.Bytes.{byte, part}
+use Rattle.rig_core.specs.Bytes.{part}
 use Rattle.rig_core.proofs.Put.{byte-part, length-part}
 use Rattle.tree_changes.specs.InStep.{data_at}
 use Rattle.present_files.specs.Present.{present_block, room_bytes, row_length}
@@ -26,7 +26,7 @@ loop-k-preserved g c =
     let same-long : length into ≡ length c.args.into.now = c.loop-k.invariant.long in
     let end : 512 * k < from + length into = omega (arith, less, c.div_ceil-k-end.ensures, same-long) in
     let mid-long : length (take (stop - from - (start - from)) (drop (start - from) into)) ≡ stop - from - (start - from)
-        = omega (arith, length-take (stop - from - (start - from)) (drop (start - from) into), length-drop (start - from) into, c.max-start.ensures, c.min-stop.ensures, end, same-long) in
+    = omega (arith, length-take (stop - from - (start - from)) (drop (start - from) into), length-drop (start - from) into, c.max-start.ensures, c.min-stop.ensures, end, same-long) in
     let long : length c.read_block.new.into ≡ stop - from - (start - from) = c.read_block.ensures.long ∙ mid-long in
     record {
       long = put-mid-long into c.read_block.new.into (start - from) (stop - from - (start - from)) long (omega (arith, c.max-start.ensures, c.min-stop.ensures, end, same-long, less, c.div_ceil-k-end.ensures)) ∙ same-long;
@@ -36,7 +36,7 @@ loop-k-preserved g c =
           let fits : c.args.at + 512 * tree_blocks row ≤ length view = omega (arith, c.requires.fits, (g.met.R.Rig.sound c.args.rig.now).view_fills tells) in
           let block-in : k < row_length p.numbers.items c.args.file.0 = omega (arith, end, same-long, c.requires.within, are.fits c.args.file.0 c.requires.file, are.rooms c.args.file.0 c.requires.file) in
           let piece : c.read_block.new.into ≡ part (start - 512 * k) (stop - from - (start - from)) (present_block (data_at row c.args.at view) p c.args.file k)
-              = c.in_ok-read_block.ensures.bytes tells ∙ (λ t. part (start - 512 * k) (mid-long t) (present_block (data_at row c.args.at (seen t)) p c.args.file k)) in
+          = c.in_ok-read_block.ensures.bytes tells ∙ (λ t. part (start - 512 * k) (mid-long t) (present_block (data_at row c.args.at (seen t)) p c.args.file k)) in
           piece-read (room_bytes (data_at row c.args.at view) p c.args.file) (present_block (data_at row c.args.at view) p c.args.file k) into c.read_block.new.into from k start stop
           c.max-start.ensures (omega (arith, c.min-stop.ensures, same-long))
           (λ j few. room-byte row c.args.at view fits p.numbers.items are.within p.pool c.stand.ensures c.args.file k j block-in few)

@@ -1,9 +1,9 @@
-use Rattle.std.proofs.Common.{◌≡◌, ◌+◌, ◌-◌, ◌*◌, ◌/◌, ◌%◌, ◌<◌, ◌≤◌, length, sym, ap, ◌∙◌, arith}
+use Rattle.std.proofs.Common.{◌≡◌, ◌+◌, ◌-◌, ◌*◌, ◌/◌, ◌%◌, ◌<◌, ◌∙◌, arith}
 use Rattle.std.proofs.lemmas.Result.{on_ok_weaker}
 use Rattle.apex_model.specs.Files.{blocks_of}
 use Rattle.tree_changes.specs.InStep.{data_at}
 use Rattle.present_files.specs.Present.{room_bytes, size_in}
-use Rattle.present_files.proofs.Contents.{put-none, put-zeros}
+use Rattle.present_files.proofs.Contents.{put-zeros}
 use Rattle.present_files.proofs.Sizes.{size-read}
 use Rattle.present_files.proofs.resizing.clear_behind.Goals as goal
 

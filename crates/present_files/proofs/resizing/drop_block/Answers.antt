@@ -1,7 +1,6 @@
 use Rattle.std.proofs.Common.{◌≡◌, ◌+◌, ◌<◌, List, ℕ, [], length, set, ap, ◌∙◌, arith}
 use Rattle.std.specs.Prelude.{slice_index_or}
 use Rattle.std.proofs.lemmas.List.{get_or_read}
-use Rattle.present_files.specs.Dropped.{AreDropped}
 use Rattle.present_files.proofs.GivenUp.{drop-one, present-dropped}
 use Rattle.present_files.proofs.resizing.drop_block.Goals as goal
 

@@ -1,4 +1,4 @@
-use Rattle.std.proofs.Common.{◌≡◌, ◌<◌, ◌≤◌, length, sym, ap, ◌∙◌, arith}
+use Rattle.std.proofs.Common.{◌≡◌, ◌≤◌, arith}
 use Rattle.apex_model.specs.Files.{blocks_of}
 use Rattle.present_files.specs.Present.{size_in}
 use Rattle.present_files.specs.declared.present.PresentSize.{PresentSize}

@@ -1,10 +1,8 @@
-use Rattle.std.proofs.Common.{◌≡◌, ◌≢◌, ℕ, ◌+◌, ◌-◌, ◌*◌, ◌<◌, ◌≤◌, List, length, take, replicate, sym, ap, ◌∙◌, arith}
-use Rattle.apex_types.specs.declared.numbers.FileNode.{FileNode}
+use Rattle.std.proofs.Common.{◌≡◌, ◌+◌, ◌-◌, ◌*◌, ◌<◌, ◌≤◌, length, take, ◌∙◌, arith}
 use Rattle.apex_model.specs.Files.{blocks_of}
 use Rattle.apex_model.specs.Layout.{tree_blocks}
 use Rattle.tree_changes.specs.InStep.{data_at}
 use Rattle.present_files.specs.Present.{room_bytes, room_in, row_length, size_in}
-use Rattle.present_files.specs.declared.present.PresentSize.{PresentSize}
 use Rattle.present_files.proofs.Contents.{content-cut, content-filled}
 use Rattle.present_files.proofs.GivenUp.{room-beside, room-front, zeros-past}
 use Rattle.present_files.proofs.Rooms.{room-long}
@@ -28,8 +26,8 @@ returns-then-size-index-clause-content g c = λ tells.
     let all : length room ≡ 512 * row_length old.numbers.items f = room-long row at view fits old.numbers.items are.within old.pool c.stand.ensures c.args.file in
     let cut : size_in now.sizes.items f ≡ c.args.size = (λ i. size_in (c.shrink.ensures.sizes i) f) ∙ size-here old.sizes.items f _ there in
     let front : take c.args.size (room_bytes blocks now c.args.file) ≡ take c.args.size room
-        = room-front row at view fits old.numbers.items now.numbers.items are.within old.pool now.pool c.stand.ensures c.args.file c.args.size (blocks_of (size_in old.sizes.items f)) c.shrink.ensures.dropped
-        (omega (arith, c.requires.blocks, are.rooms f c.requires.file)) in
+    = room-front row at view fits old.numbers.items now.numbers.items are.within old.pool now.pool c.stand.ensures c.args.file c.args.size (blocks_of (size_in old.sizes.items f)) c.shrink.ensures.dropped
+    (omega (arith, c.requires.blocks, are.rooms f c.requires.file)) in
     (λ i. take (cut i) (room_bytes blocks now c.args.file))
     ∙ content-cut room (room_bytes blocks now c.args.file) (size_in old.sizes.items f) c.args.size (omega (arith, size, c.if-size-index.true)) (omega (arith, all, are.fits f c.requires.file, are.rooms f c.requires.file)) front
 

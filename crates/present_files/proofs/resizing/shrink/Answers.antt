@@ -1,5 +1,4 @@
-use Rattle.std.proofs.Common.{◌≡◌, ◌<◌, ◌≤◌, length, sym, ap, ◌∙◌, arith}
-use Rattle.apex_model.specs.Files.{blocks_of}
+use Rattle.std.proofs.Common.{◌≡◌, arith}
 use Rattle.present_files.specs.Present.{size_in}
 use Rattle.present_files.proofs.GivenUp.{gone-behind}
 use Rattle.present_files.proofs.Sizes.{size-read}

@@ -1,6 +1,4 @@
-use Rattle.std.proofs.Common.{◌≡◌, ◌+◌, ◌*◌, ◌-◌, ◌≤◌, ◌==◌, length, replicate, sym, ap, ◌∙◌, rules, arith}
-use Rattle.std.proofs.lemmas.Grind.{common_steps}
-use Rattle.std.proofs.lemmas.Bool.{eqb-true}
+use Rattle.std.proofs.Common.{◌≡◌, ◌+◌, length, replicate, ap, ◌∙◌, rules, arith}
 use Rattle.rig_core.specs.Bytes.{part}
 use Rattle.tree_changes.specs.InStep.{block_place}
 use Rattle.present_files.proofs.DataBlocks.{block-part, zero-part}

@@ -1,4 +1,4 @@
-use Rattle.std.proofs.Common.{◌≡◌, ℕ, ◌+◌, ◌-◌, ◌*◌, ◌/◌, ◌<◌, ◌≤◌, List, length, take, drop, subst, sym, ap, ◌∙◌, refl, arith}
+use Rattle.std.proofs.Common.{◌≡◌, ℕ, ◌+◌, ◌-◌, ◌*◌, ◌/◌, ◌<◌, ◌≤◌, List, length, take, drop, subst, ap, ◌∙◌, refl, arith}
 use Rattle.apex_model.specs.Layout.{tree_blocks}
 use Rattle.rig_core.specs.Bytes.{put}
 use Rattle.tree_changes.specs.InStep.{data_at}

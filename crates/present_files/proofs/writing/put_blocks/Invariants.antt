@@ -1,4 +1,4 @@
-use Rattle.std.proofs.Common.{◌≡◌, ◌≢◌, ℕ, ◌+◌, ◌-◌, ◌*◌, ◌/◌, ◌<◌, ◌≤◌, length, take}
+use Rattle.std.proofs.Common.{◌≡◌, ◌≢◌, ◌+◌, ◌-◌, ◌*◌, ◌/◌, ◌≤◌, take}
 use Rattle.apex_types.specs.declared.numbers.FileNode.{FileNode}
 use Rattle.rig_core.specs.Bytes.{put}
 use Rattle.rig_core.specs.Outside.{OnlyReads}

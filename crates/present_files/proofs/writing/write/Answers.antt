@@ -1,4 +1,4 @@
-use Rattle.std.proofs.Common.{◌≡◌, ℕ, ◌+◌, ◌-◌, ◌*◌, ◌<◌, ◌≤◌, max, List, length, take, sym, ap, ◌∙◌, arith}
+use Rattle.std.proofs.Common.{◌≡◌, ℕ, ◌+◌, ◌*◌, ◌<◌, ◌≤◌, max, List, length, take, ap, ◌∙◌, arith}
 use Rattle.std.proofs.lemmas.Result.{on_ok_weaker}
 use Rattle.apex_model.specs.Layout.{tree_blocks}
 use Rattle.rig_core.specs.Bytes.{put}
@@ -33,7 +33,7 @@ returns-clause-content g c = λ tells.
     let old-fits : size_in p.sizes.items f ≤ length room = omega (arith, all, are.fits f c.requires.file, are.rooms f c.requires.file) in
     let new-fits : c.args.from + length bytes ≤ length room = omega (arith, all, c.requires.blocks, are.rooms f c.requires.file) in
     let grown : size_in c.put_blocks.new.present.sizes.items f ≡ max (size_in p.sizes.items f) (c.args.from + length bytes)
-        = (λ i. size_in (c.put_blocks.ensures.sizes i).items f) ∙ (λ i. size_in (c.set_size.ensures.sizes i) f) ∙ size-here p.sizes.items f _ there ∙ omega (arith, c.max-size.ensures, size) in
+    = (λ i. size_in (c.put_blocks.ensures.sizes i).items f) ∙ (λ i. size_in (c.set_size.ensures.sizes i) f) ∙ size-here p.sizes.items f _ there ∙ omega (arith, c.max-size.ensures, size) in
     let same : room_bytes blocks c.set_size.new.present c.args.file ≡ room = (λ i. room_in blocks (c.set_size.ensures.numbers_stay i).items (c.set_size.ensures.pool_stays i) c.args.file) in
     on_ok_weaker c.put_blocks.result
     (λ here.
