@@ -1,6 +1,6 @@
 -- A region stays in step while a data block is written that isn't named.
 use Rattle.std.proofs.Common.{◌≡◌, inl, inr, ⊎_elim, ℕ, zero, suc, ◌+◌, ◌-◌, ◌*◌, ◌<◌, ◌≤◌, List, [], length, refl, sym, ap, subst, ◌∙◌, Some, arith}
-use Rattle.std.specs.Prelude.{Contains, slice_index_or}
+use Rattle.std.specs.Prelude.{slice_index_or}
 use Rattle.std.proofs.lemmas.Bool.{cases_lt}
 use Rattle.std.proofs.lemmas.Bool.Decides.{nat_tests}
 use Rattle.std.proofs.lemmas.List.{places}
@@ -22,7 +22,6 @@ use Rattle.meta_journal.proofs.Regions as journal
 use Rattle.tree_mount.specs.Region.{Spells, StandsFor, region_at, slots_at, body_of, journal_of}
 use Rattle.tree_mount.specs.declared.region.TreeRegion.{TreeRegion}
 use Rattle.tree_mount.proofs.JournalRoom.{room-there}
-use Rattle.tree_mount.proofs.NamedNumbers.{names-stay}
 use Rattle.tree_mount.proofs.Places.{slot-low, data-long}
 use Rattle.tree_changes.specs.InStep.{InStep, SameNamed, AreOthers, IsTree, data_at, block_place, slots_long}
 use Rattle.tree_changes.proofs.Places.{some-body, data-part, record-start, newest-settled, body-settled, slot-high}
@@ -95,7 +94,6 @@ module _ (row : TreeRow) (at : ℕ) (kept : TreeRegion) (a b : List ℕ) (long :
         spells = spells-there;
         slots = (slots.knows_speaks kept.slots (subst (λ (p : Place). 0 < p.body) (sym place) (some-body row))).told_by a b long (subst Same (sym place) whole-slots) stands.slots;
         version = version_is;
-        named = λ n there. stands.named n (subst (λ (ns : List ℕ). Contains ns n) (names-stay row at slot a b fits fits-there stands.is_newest newest-there same-body same-recs) there);
         first = stands.first;
         held = held_is;
         room = finds;
@@ -127,7 +125,7 @@ module _ (row : TreeRow) (at number : ℕ) (one : 1 ≤ number) (a b : List ℕ)
     | inr many ↦ past (data_at row at b) k (omega (arith, long-b, many)) ∙ sym (past (data_at row at a) k (omega (arith, long-a, many)))
   ]
 
-  block-same : (m : ℕ) → (m ≡ number → ⊥) → data_block (data_at row at b) m ≡ data_block (data_at row at a) m
+  pub block-same : (m : ℕ) → (m ≡ number → ⊥) → data_block (data_at row at b) m ≡ data_block (data_at row at a) m
   block-same zero other = refl
   block-same (suc m) other =
       let bytes : part (512 * (suc m - 1)) 512 (data_at row at b) ≡ part (512 * (suc m - 1)) 512 (data_at row at a)

@@ -1,6 +1,6 @@
 -- A whole slot is committed: which tree each image stands for meanwhile, and that the region is in step afterwards.
 use Rattle.std.proofs.Common.{◌≡◌, ◌⊎◌, inl, inr, ⊎_elim, ℕ, ◌+◌, ◌*◌, ◌%◌, ◌≤◌, true, List, [], ◌++◌, length, take, replicate, sym, ap, subst, ◌∙◌, Option, Some, arith}
-use Rattle.std.specs.Prelude.{Contains, slice_index_or, slice_set}
+use Rattle.std.specs.Prelude.{slice_index_or, slice_set}
 use Rattle.std.proofs.lemmas.Bool.Decides.{nat_tests}
 use Rattle.std.proofs.lemmas.List.{length-set}
 use Rattle.apex_types.specs.declared.rows.TreeRow.{TreeRow}
@@ -13,24 +13,18 @@ use Rattle.rig_core.specs.Bytes.{part, SameElsewhere}
 use Rattle.rig_core.specs.Leaves.{Leaves, LeavesElsewhere, IsAllSettled}
 use Rattle.rig_core.specs.Outside.{Outside, Sound}
 use Rattle.rig_core.proofs.Regions.{settled_all}
-use Rattle.block_quota.specs.Blocks.{is_used}
 use Rattle.gate_slots.proofs.Newest.{content_when}
 use Rattle.gate_slots.specs.Place.{Place, gate_of, newest_slot, newest_content, content_size, slot_size, slots_size}
 use Rattle.gate_slots.specs.Slots.{Knows, place_of, number_of}
 use Rattle.gate_slots.specs.declared.slots.Slots.{Slots}
-use Rattle.image_laws.specs.NamedBlocks.{named_blocks}
 use Rattle.meta_journal.specs.declared.Journal.{Journal}
 use Rattle.meta_journal.specs.Journal as meta
-use Rattle.tree_mount.specs.GoodNumbers.{numbers_of_files}
 use Rattle.tree_changes.proofs.Contents as contents
 use Rattle.tree_changes.proofs.Emptied.{emptied-held, emptied-finds, emptied-knows, emptied-version}
-use Rattle.tree_changes.proofs.InTables.{in-files, in-room, numbers-numbered}
 use Rattle.tree_changes.specs.Contents.{with_empty_journal, HasNewSlot}
 use Rattle.tree_changes.specs.InStep.{InStep, IsTree, data_at, slots_long}
 use Rattle.tree_changes.specs.Ready.{IsReady}
 use Rattle.tree_mount.proofs.JournalRoom.{room-there}
-use Rattle.tree_mount.proofs.NamedNumbers.{named-in}
-use Rattle.tree_mount.specs.Numbers.{numbers_in, with_room}
 use Rattle.tree_mount.specs.Region.{Spells, StandsFor, tree_over, region_at, slots_at, body_of, journal_of}
 use Rattle.tree_mount.specs.declared.region.TreeRegion.{TreeRegion}
 
@@ -118,7 +112,7 @@ module _ (V K : Type 0) (row : TreeRow) (at : ℕ) (kept : TreeRegion) (o e : Ou
 
   -- from the end of the call on
   module _ (slots : Slots) (place : place_of slots ≡ place_of kept.slots) (committed : V → newest_content (place_of kept.slots) e.view ≡ Some (written ++ tail)) (known : V → Knows slots e.view) (all : IsAllSettled e)
-      (header : (sequence : ℕ) → sequence ≤ 2 → header_of (take 64 (slice_set body 0 sequence)) ≡ Some (sequence, 2)) (listed : numbers_in row body ≡ with_room row.quota (numbers_of_files kept.tree numbers))
+      (header : (sequence : ℕ) → sequence ≤ 2 → header_of (take 64 (slice_set body 0 sequence)) ≡ Some (sequence, 2))
       (newest : ℕ) (newest_is : (image : List ℕ) → Knows slots image → newest_slot (place_of slots) image ≡ Some newest) (j : Journal) (first : meta.first_of j ≡ journal_of row at newest) (held : meta.held_of j ≡ 0) (room : meta.room_of j ≡ 32) where
     abbrev new : TreeRegion
     new = record { slots = slots; version = 2; journal = j; tree = kept.tree; table = kept.table }
@@ -143,16 +137,6 @@ module _ (V K : Type 0) (row : TreeRow) (at : ℕ) (kept : TreeRegion) (o e : Ou
     header-there : header_of (take 64 written) ≡ Some (next, 2)
     header-there = ap (λ (bytes : List ℕ). header_of (take 64 bytes)) numbered ∙ header next next-low
 
-    listed-there : (shown : V) → numbers_in row (body_of row at (slot shown).newest e.view) ≡ with_room row.quota (numbers_of_files kept.tree numbers)
-    listed-there shown = ap (numbers_in row) ((slot shown).body_is ∙ numbered) ∙ numbers-numbered row body next ∙ listed
-
-    named-there : V → (n : ℕ) → Contains (named_blocks row (region_at row at e.view)) n → 1 ≤ n → is_used kept.table.used n ≡ true
-    named-there shown n there one =
-        let own = named-in row at e.view (end-fits shown) (slot shown).newest (slot shown).is_newest n there in
-        let its = in-room row.quota (numbers_of_files kept.tree numbers) n one (subst (λ (ns : List ℕ). Contains ns n) (listed-there shown) own) in
-        let placed = in-files kept.tree 0 numbers n its in
-        subst (λ m. is_used kept.table.used m ≡ true) placed.2 (ready.numbers.numbers placed.0 placed.1 (subst (λ m. 1 ≤ m) (sym placed.2) one))
-
     stands-there : V → StandsFor row at e.view new
     unfolding slot
     stands-there shown =
@@ -167,7 +151,6 @@ module _ (V K : Type 0) (row : TreeRow) (at : ℕ) (kept : TreeRegion) (o e : Ou
           spells = contents.new-spells row at e.view (end-fits shown) written long-written (content-is shown) 2 kept.tree numbers spells;
           slots = known shown;
           version = version;
-          named = λ n there one few. named-there shown n there one;
           first = first-there shown;
           held = held_is;
           room = finds;

@@ -195,7 +195,6 @@ module _ (row : TreeRow) (old new : TreeRegion) (forgets : Forgets old new) (has
       spells = spells-same _ _ old.version stands.spells;
       slots = stands.slots;
       version = stands.version;
-      named = stands.named;
       first = stands.first;
       held = stands.held;
       room = stands.room;

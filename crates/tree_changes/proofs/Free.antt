@@ -50,7 +50,6 @@ module _ (kept : TreeRegion) (number : ℕ) where
         spells = stands.spells;
         slots = stands.slots;
         version = stands.version;
-        named = λ n there some few. still-used kept.table.used number one within n some (stands.named n there some few);
         first = stands.first;
         held = stands.held;
         room = stands.room;

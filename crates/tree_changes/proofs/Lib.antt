@@ -8,7 +8,6 @@ pub mod Emptied
 pub mod EmptyContent
 pub mod Forgotten
 pub mod Free
-pub mod InTables
 pub mod Opened
 pub mod Places
 pub mod Ready

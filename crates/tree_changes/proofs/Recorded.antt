@@ -22,7 +22,6 @@ use Rattle.tree_mount.specs.Region.{Spells, StandsFor, tree_over, region_at, slo
 use Rattle.tree_mount.specs.declared.region.TreeRegion.{TreeRegion}
 use Rattle.tree_mount.proofs.GoodNumbers.{good-kept}
 use Rattle.tree_mount.proofs.JournalRoom.{room-there}
-use Rattle.tree_mount.proofs.NamedNumbers.{names-fewer}
 use Rattle.tree_mount.proofs.Places.{slot-low}
 use Rattle.tree_changes.specs.InStep.{InStep, SameNamed, IsTree, data_at, slots_long}
 use Rattle.journal_replay.proofs.Lengths.{applied-long}
@@ -164,7 +163,6 @@ module _ (V K : Type 0) (row : TreeRow) (at : ℕ) (kept : TreeRegion) (o e : Ou
               (subst (λ (p : Place). (s : ℕ) → byte e.view (slot_gate p s + 512) ≡ byte o.view (slot_gate p s + 512)) (sym step.within.place) (numbers-stay row at (slot shown) held (low shown) (few shown) o.view e.view (there shown)))
               was.slots;
           version = version_is;
-          named = λ n its. was.named n (names-fewer row at (slot shown) o.view e.view (long shown) fits_there was.is_newest (newest-there shown) (same-body shown) bytes (recs-there shown) n its);
           first = first-there shown;
           held = held_here;
           room = finds;

@@ -5,7 +5,7 @@ ghost use Rattle.apex_model.specs.Layout.{tree_blocks};
 ghost use Rattle.rig_core.specs.Causes.{Rose};
 ghost use Rattle.rig_core.specs.Leaves.{IsAllSettled};
 ghost use Rattle.rig_core.specs.Outside.{OnlyReads};
-ghost use Rattle.tree_mount.specs.Region.{AreUsedByBody, region_at};
+ghost use Rattle.tree_mount.specs.Region.{AreNamedMarked, AreUsedByBody, region_at};
 ghost use Rattle.tree_changes.specs.InStep.{InStep};
 
 use apex_types::TreeRow;
@@ -27,6 +27,7 @@ pub fn mount_settled<R: Rig>(
     requires settled { IsAllSettled (R.state rig.old) }
     ensures in_step { IfOk result (InStep R.tells_view row.now at (R.state rig.new)) }
     ensures used { R.tells_view → IfOk result (AreUsedByBody row.now at (R.state rig.old).view) }
+    ensures marked { R.tells_view → IfOk result (AreNamedMarked row.now at (R.state rig.old).view) }
     ensures bad { R.tells_view → IsErrOf result MountStop.Bad → tree_of_region row.now (region_at row.now at (R.state rig.old).view) ≡ None }
     ensures reads { OnlyReads R.tells_view (R.state rig.old) (R.state rig.new) }
     ensures cause { IsErrOf result MountStop.Device → Rose (R.state rig.old).read_faults (R.state rig.new).read_faults }

@@ -1,5 +1,5 @@
 -- The numbers that the newest slot's files have after its records are among those of its body.
-use Rattle.std.proofs.Common.{◌≡◌, ℕ, zero, suc, ◌+◌, ◌*◌, ◌≤◌, inl, inr, Bool, true, false, cond, List, [], ◌∷◌, ◌++◌, length, take, drop, refl, sym, ap, subst, ◌∙◌, Option, Some, None}
+use Rattle.std.proofs.Common.{◌≡◌, ℕ, zero, suc, ◌+◌, ◌*◌, ◌≤◌, inl, inr, Bool, true, false, cond, List, [], ◌∷◌, length, take, drop, refl, sym, ap, subst, ◌∙◌, Option, Some, None}
 use Rattle.std.specs.Prelude.{Contains, option_map, flat_map}
 use Rattle.std.specs.List.{range_with_len}
 use Rattle.apex_types.specs.declared.fields.FileEntryField.{FileEntryField}
@@ -19,9 +19,9 @@ use Rattle.file_tree.proofs.ReadBodies.{mapped}
 use Rattle.file_tree.proofs.Ways.{not_some}
 use Rattle.tree_mount.specs.Numbers.{AreUsed, numbers_in, rest_of}
 use Rattle.tree_mount.specs.Region.{region_at, slots_at, body_of, journal_of}
-use Rattle.tree_mount.proofs.Contained.{none-in, in-either, in-left, in-right, from-take, from-drop, any-in}
+use Rattle.tree_mount.proofs.Contained.{none-in, in-either, from-take, from-drop, any-in}
 use Rattle.tree_mount.proofs.Places.{newest-there, slot-low, body-there, records-there}
-use Rattle.tree_mount.proofs.Replaying.{none-replayed, all-replayed, replayed-append}
+use Rattle.tree_mount.proofs.Replaying.{none-replayed, all-replayed}
 
 -- ---- the numbers of files
 
@@ -44,17 +44,7 @@ module _ (numbers : List ℕ) where
   listed-among own sub (Used name parent size changes ∷ fields) (suc f) entry h =
       listed-among (drop (blocks_of size) own) (λ n there. sub n (from-drop (blocks_of size) own n there)) fields f entry h
 
-  -- those of files are among these, if all are
-  own-among : (files : List (Option Entry)) → ((n : ℕ) → Contains (flat_map numbers_of_entry files) n → Contains numbers n) → AllAmong files
-  own-among [] sub f entry h = absurd (not_some h)
-  own-among (None ∷ files) sub zero entry h = absurd (not_some h)
-  own-among (None ∷ files) sub (suc f) entry h = own-among files sub f entry h
-  own-among (Some first ∷ files) sub zero entry h =
-      let same : first ≡ entry = cc in
-      subst (λ (e : Entry). AreAmong 0 e.stored) same (λ n there. sub n (in-left (drop 1 first.stored.content) (flat_map numbers_of_entry files) n there))
-  own-among (Some first ∷ files) sub (suc f) entry h =
-      own-among files (λ n there. sub n (in-right (drop 1 first.stored.content) (flat_map numbers_of_entry files) n there)) f entry h
-
+  -- and so are those of files, if each is
   files-among : (files : List (Option Entry)) → AllAmong files → (n : ℕ) → Contains (flat_map numbers_of_entry files) n → Contains numbers n
   files-among [] has n there = absurd (none-in n there)
   files-among (None ∷ files) has n there = files-among files (λ f. has (suc f)) n there
@@ -104,29 +94,9 @@ module _ (row : TreeRow) (body : List ℕ) where
               ]) refl there
         ]) refl
 
--- ---- one more record
-
-module _ (version : ℕ) (one : List ℕ) (n : ℕ) where
-  fewer : (o : Option Entries) → Contains (numbers_of (replayed version (one ∷ []) o)) n → Contains (numbers_of o) n
-  fewer None there = absurd (none-in n (subst (λ (o : Option Entries). Contains (numbers_of o) n) (none-replayed version (one ∷ [])) there))
-  fewer (Some entries) there =
-      let own : List ℕ = flat_map numbers_of_entry entries.files in
-      (elim (replayed version (one ∷ []) (Some entries)) as (λ o. replayed version (one ∷ []) (Some entries) ≡ o → Contains (numbers_of o) n → Contains own n) [
-        | None ↦ λ gone k. absurd (none-in n k)
-        | Some after ↦ λ made k.
-            files-among own after.files
-            (all-replayed (AreAmong own) (λ k m wrong. absurd (none-in m wrong)) version (one ∷ []) entries after (own-among own entries.files (λ m its. its)) made) n k
-      ]) refl there
-
 -- the numbers that a body and its records name
 abbrev names-by : TreeRow → Option (ℕ × ℕ) → List ℕ → List (List ℕ) → List ℕ
 names-by row header bytes rs = elim header [ None ↦ [] | Some h ↦ numbers_of (replayed h.1 rs (listed_of_body h.1 row bytes)) ]
-
-one-more : (row : TreeRow) (header : Option (ℕ × ℕ)) (bytes : List ℕ) (rs : List (List ℕ)) (one : List ℕ) (n : ℕ) → Contains (names-by row header bytes (rs ++ one ∷ [])) n → Contains (names-by row header bytes rs) n
-one-more row None bytes rs one n there = there
-one-more row (Some h) bytes rs one n there =
-    fewer h.1 one n (replayed h.1 rs (listed_of_body h.1 row bytes))
-    (subst (λ (o : Option Entries). Contains (numbers_of o) n) (replayed-append h.1 rs (one ∷ []) (listed_of_body h.1 row bytes)) there)
 
 -- ---- the region
 
@@ -156,24 +126,3 @@ module _ (row : TreeRow) (at : ℕ) (image : List ℕ) (fits : at + 512 * tree_b
   pub named-used : (used : List Bool) → AreUsed row.quota (numbers_in row body) used → (n : ℕ) → Contains (named_blocks row (region_at row at image)) n → 1 ≤ n → n ≤ 2 * row.quota → is_used used n ≡ true
   named-used used are n there one few =
       are.named n one few ∙ any-in (numbers_in row body) n (named-in n there)
-
--- ---- two images
-
-module _ (row : TreeRow) (at slot : ℕ) (a b : List ℕ) (fits-a : at + 512 * tree_blocks row ≤ length a) (fits-b : at + 512 * tree_blocks row ≤ length b)
-    (newest-a : newest_slot (slots_at row at) a ≡ Some slot) (newest-b : newest_slot (slots_at row at) b ≡ Some slot) (body-same : body_of row at slot b ≡ body_of row at slot a) where
-  -- with the same body and records they name the same blocks
-  pub names-stay : records (journal_of row at slot) b ≡ records (journal_of row at slot) a → named_blocks row (region_at row at b) ≡ named_blocks row (region_at row at a)
-  names-stay same =
-      names-are row at b fits-b slot newest-b
-      ∙ (λ i. names-by row (header_of (take 64 (body-same i))) (body-same i) (same i))
-      ∙ sym (names-are row at a fits-a slot newest-a)
-
-  -- with one more record the second names no other blocks
-  pub names-fewer : (one : List ℕ) → records (journal_of row at slot) b ≡ records (journal_of row at slot) a ++ one ∷ []
-      → (n : ℕ) → Contains (named_blocks row (region_at row at b)) n → Contains (named_blocks row (region_at row at a)) n
-  names-fewer one more n there =
-      let before = body_of row at slot a in
-      let now : named_blocks row (region_at row at b) ≡ names-by row (header_of (take 64 before)) before (records (journal_of row at slot) a ++ one ∷ [])
-      = names-are row at b fits-b slot newest-b ∙ (λ i. names-by row (header_of (take 64 (body-same i))) (body-same i) (more i)) in
-      subst (λ (ns : List ℕ). Contains ns n) (sym (names-are row at a fits-a slot newest-a))
-      (one-more row (header_of (take 64 before)) before (records (journal_of row at slot) a) one n (subst (λ (ns : List ℕ). Contains ns n) now there))

@@ -75,9 +75,8 @@ pub record StandsFor (row : TreeRow) (at : ℕ) (image : List ℕ) (kept : TreeR
   pub is_newest : newest_slot (slots_at row at) image ≡ Some newest
   pub spells : Spells row (body_of row at newest image) (records (journal_of row at newest) image) kept.version kept.tree kept.table.files.items
   pub slots : slots.Knows kept.slots image
-  -- its version, and the blocks of the files that its records leave
+  -- its version
   pub version : byte image (gate_of (slots_at row at) newest + 513) ≡ kept.version
-  pub named : (n : ℕ) → Contains (named_blocks row (region_at row at image)) n → 1 ≤ n → n ≤ 2 * row.quota → is_used kept.table.used n ≡ true
   -- the leading records of its journal, and whether one more has room
   pub first : journal.first_of kept.journal ≡ journal_of row at newest
   pub held : journal.held_of kept.journal ≡ length (records (journal_of row at newest) image)
@@ -102,3 +101,7 @@ pub record HasLimits (row : TreeRow) (kept : TreeRegion) : Type 0 where
 -- exactly those blocks are used that the newest slot's body names
 abbrev pub AreUsedByBody : TreeRow → ℕ → List ℕ → TreeRegion → Type 0
 AreUsedByBody row at image kept = (newest : ℕ) → newest_slot (slots_at row at) image ≡ Some newest → AreUsed row.quota (numbers_in row (body_of row at newest image)) kept.table.used
+
+-- each block that the newest slot's body and records name is marked as used
+abbrev pub AreNamedMarked : TreeRow → ℕ → List ℕ → TreeRegion → Type 0
+AreNamedMarked row at image kept = (n : ℕ) → Contains (named_blocks row (region_at row at image)) n → 1 ≤ n → n ≤ 2 * row.quota → is_used kept.table.used n ≡ true

@@ -15,7 +15,7 @@ ghost use Rattle.journal_replay.specs.Replay.{replayed, KeepsStored};
 ghost use Rattle.tree_mount.specs.Bodies.{IsBody};
 ghost use Rattle.tree_mount.specs.GoodNumbers.{HasGoodNumbers};
 ghost use Rattle.tree_mount.specs.Numbers.{HasNumbers, HasRooms};
-ghost use Rattle.tree_mount.specs.Region.{AreUsedByBody, HasLimits, IsWithin, StandsFor, region_at, slots_at};
+ghost use Rattle.tree_mount.specs.Region.{AreNamedMarked, AreUsedByBody, HasLimits, IsWithin, StandsFor, region_at, slots_at};
 
 use crate::body::{SlotBody, read_slot_body};
 use crate::region::TreeRegion;
@@ -167,6 +167,7 @@ pub fn mount<R: Rig>(
     ensures numbers { IfOk result (λ kept. HasNumbers row.now kept.table) }
     ensures good { IfOk result (λ kept. HasGoodNumbers row.now kept.tree kept.table.files.items) }
     ensures used { R.tells_view → IfOk result (AreUsedByBody row.now at (R.state rig.old).view) }
+    ensures marked { R.tells_view → IfOk result (AreNamedMarked row.now at (R.state rig.old).view) }
     ensures bad { R.tells_view → IsErrOf result MountStop.Bad → tree_of_region row.now (region_at row.now at (R.state rig.old).view) ≡ None }
     ensures reads { OnlyReads R.tells_view (R.state rig.old) (R.state rig.new) }
     ensures cause { IsErrOf result MountStop.Device → Rose (R.state rig.old).read_faults (R.state rig.new).read_faults }

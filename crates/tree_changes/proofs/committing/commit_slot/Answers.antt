@@ -31,5 +31,5 @@ returns-clause-in_step g c =
     let ensured = c.in_ok-commit.ensures in
     in-step g.R.Rig.tells_view g.R.Rig.keeps_cuts c.args.row.now c.args.at c.args.kept.now (g.R.Rig.state c.args.rig.now) (g.R.Rig.state c.commit.new.rig) (g.met.R.Rig.sound c.args.rig.now) (g.met.R.Rig.sound c.commit.new.rig)
     ensured.later.size c.requires.fits c.requires.ready c.put_slot_body.new.body c.commit.new.body c.args.tail.now (c.put_slot_body.ensures.long ∙ c.requires.body) ensured.numbered c.requires.tail
-    c.put_slot_body.ensures.spelled c.commit.new.self ensured.place (λ tells. ensured.committed tells) (λ tells. ensured.known tells) ensured.settled c.put_slot_body.ensures.header c.put_slot_body.ensures.numbers
+    c.put_slot_body.ensures.spelled c.commit.new.self ensured.place (λ tells. ensured.committed tells) (λ tells. ensured.known tells) ensured.settled c.put_slot_body.ensures.header
     c.newest.result c.newest.ensures.slot c.fresh-kept.result (c.fresh-kept.ensures.first ∙ c.journal_start.ensures) c.fresh-kept.ensures.held c.fresh-kept.ensures.room

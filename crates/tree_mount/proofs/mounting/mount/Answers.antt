@@ -111,7 +111,6 @@ returns-in-Ok-replay_all-clause-stands g c = λ tells.
           };
       slots = subst (λ (v : List ℕ). Knows c.find_newest.new.slots v) seen (c.in-Ok.ensures.known tells);
       version = good-version row at view fits c.in-Ok.newest newest kept is;
-      named = λ n there one few. named-used row at view fits c.in-Ok.newest newest kept.table.used is.1 n there one few;
       first = c.in-Ok-replay_all.ensures.first ∙ first;
       held = c.in-Ok-replay_all.ensures.held tells ∙ (λ i. length (records (first i) (later i)));
       room = subst (λ (v : List ℕ). journal.FindsRoom c.replay_all.new.journal v) later (c.in-Ok-replay_all.ensures.room tells);
@@ -169,3 +168,20 @@ returns-in-Ok-replay_all-clause-used g c = λ tells slot is_newest.
     let found : ◌≡◌ {A = Option ℕ} (Some c.in-Ok.newest) (Some slot) = sym newest ∙ is_newest in
     let same : c.in-Ok.newest ≡ slot = cc in
     subst (λ (s : ℕ). AreUsed row.quota (numbers_in row (body_of row at s view)) kept.table.used) same is.1
+
+pub returns-in-Ok-replay_all-clause-marked : goal.returns-in-Ok-replay_all-clause-marked
+returns-in-Ok-replay_all-clause-marked g c = λ tells.
+    let row = c.args.row.now in
+    let at = c.args.at in
+    let kept = c.in-Ok-read_body_at.body in
+    let view = (g.R.Rig.state c.args.rig.now).view in
+    let fits : at + 512 * tree_blocks row ≤ length view = omega (arith, c.requires, (g.met.R.Rig.sound c.args.rig.now).view_fills tells) in
+    let place : place_of c.new-slots.result ≡ slots_at row at
+    = c.new-slots.ensures.place ∙ ap (λ n. let p : Place = record { start = at; body = n; tail = 64 } in p) c.body_blocks-blocks.ensures.value in
+    let newest : newest_slot (slots_at row at) view ≡ Some c.in-Ok.newest
+    = ap (λ (p : Place). newest_slot p view) (sym place) ∙ c.in-Ok.ensures.newest tells in
+    let seen : (g.R.Rig.state c.find_newest.new.rig).view ≡ view = c.find_newest.ensures.reads.view tells in
+    let body : part (c.slot_start-body_at.result + 512) (512 * body_blocks row) (g.R.Rig.state c.find_newest.new.rig).view ≡ body_of row at c.in-Ok.newest view
+    = (λ i. part (c.slot_start-body_at.ensures i + 512) (512 * body_blocks row) (seen i)) in
+    let is : IsBody row (body_of row at c.in-Ok.newest view) (Some kept) = subst (λ (b : List ℕ). IsBody row b (Some kept)) body (c.in-Ok-read_body_at.ensures.body tells) in
+    λ n there one few. named-used row at view fits c.in-Ok.newest newest kept.table.used is.1 n there one few
