@@ -90,6 +90,13 @@ is-source stop.Tell status (inl i) h = absurd (let w : ReplyFault ≡ SourceFaul
 is-source stop.Memory status (inl i) h = absurd (let w : OutOfMemory ≡ SourceFault = sym i ∙ h in cc)
 is-source s status (inr i) h = absurd (let w : ReplyFault ≡ SourceFault = sym i ∙ h in cc)
 
+-- a stop at a source that failed is told as that, or telling it fails too
+pub ends-table-fault : (s : Stop) (status : Status) → EndsAs s status → s ≡ stop.TableSource → (status ≡ SourceFault) ⊎ (status ≡ ReplyFault)
+ends-table-fault s status ends is = let P : Stop → Type 0 = λ x. EndsAs x status in subst P is ends
+
+pub ends-script-fault : (s : Stop) (status : Status) → EndsAs s status → s ≡ stop.ScriptSource → (status ≡ SourceFault) ⊎ (status ≡ ReplyFault)
+ends-script-fault s status ends is = let P : Stop → Type 0 = λ x. EndsAs x status in subst P is ends
+
 pub of-table : (s : Stop) (tb sb : List ℕ) (e : TableError) → s ≡ stop.Table e → StopsFor tb sb s → table_of tb ≡ Err e
 of-table s tb sb e is h = let P : Stop → Type 0 = λ x. StopsFor tb sb x in subst P is h
 
@@ -132,6 +139,18 @@ module _ (s : Stop) (status : Status) (old mid new : List ℕ) (ends : EndsAs s 
       inr (b is, told (h ∙ sym (ap status_of_stop is)) ∙ ap (λ (x : Stop). mid ++ line_of_stop x) is ∙ ap (λ (x : List ℕ). x ++ script_fault_line) same))
       (is-source s status ends h)
 
+  pub tells-table-fault : IsQuiet old mid s → s ≡ stop.TableSource → status ≡ SourceFault → new ≡ old ++ table_fault_line
+  tells-table-fault quiet is h =
+      let P : Stop → Type 0 = λ x. IsQuiet old mid x in
+      let same : mid ≡ old = subst P is quiet in
+      told (h ∙ sym (ap status_of_stop is)) ∙ ap (λ (x : Stop). mid ++ line_of_stop x) is ∙ ap (λ (x : List ℕ). x ++ table_fault_line) same
+
+  pub tells-script-fault : IsQuiet old mid s → s ≡ stop.ScriptSource → status ≡ SourceFault → new ≡ old ++ script_fault_line
+  tells-script-fault quiet is h =
+      let P : Stop → Type 0 = λ x. IsQuiet old mid x in
+      let same : mid ≡ old = subst P is quiet in
+      told (h ∙ sym (ap status_of_stop is)) ∙ ap (λ (x : Stop). mid ++ line_of_stop x) is ∙ ap (λ (x : List ℕ). x ++ script_fault_line) same
+
   pub tells-memory : (tb sb : List ℕ) → ToldBefore tb sb old mid s → s ≡ stop.Memory → status ≡ OutOfMemory → (new ≡ old) ⊎ TellsSome tb sb old new
   tells-memory tb sb before is h =
       let P : Stop → Type 0 = λ x. ToldBefore tb sb old mid x in
@@ -154,6 +173,23 @@ stops-there line old mid new part none = (part.0, part.1, part.2, none.3 ∙ ap 
 
 part-from : (line old mid new : List ℕ) → mid ≡ old → IsToldPart line mid new → IsToldPart line old new
 part-from line old mid new same part = let P : List ℕ → Type 0 = λ x. IsToldPart line x new in subst P same part
+
+-- part of the line of a source that failed
+pub part-of-table-line : (s : Stop) (old mid new : List ℕ) → mid ≡ old → IsToldPart (line_of_stop s) mid new → s ≡ stop.TableSource → IsToldPart table_fault_line old new
+part-of-table-line s old mid new same part is =
+    let Q : Stop → Type 0 = λ x. IsToldPart (line_of_stop x) mid new in
+    part-from table_fault_line old mid new same (subst Q is part)
+
+pub part-of-table-fault : (s : Stop) (old mid new : List ℕ) → IsQuiet old mid s → IsToldPart (line_of_stop s) mid new → s ≡ stop.TableSource → IsToldPart table_fault_line old new
+part-of-table-fault s old mid new quiet part is =
+    let P : Stop → Type 0 = λ x. IsQuiet old mid x in
+    part-of-table-line s old mid new (subst P is quiet) part is
+
+pub part-of-script-fault : (s : Stop) (old mid new : List ℕ) → IsQuiet old mid s → IsToldPart (line_of_stop s) mid new → s ≡ stop.ScriptSource → IsToldPart script_fault_line old new
+part-of-script-fault s old mid new quiet part is =
+    let P : Stop → Type 0 = λ x. IsQuiet old mid x in
+    let Q : Stop → Type 0 = λ x. IsToldPart (line_of_stop x) mid new in
+    part-from script_fault_line old mid new (subst P is quiet) (subst Q is part)
 
 pub tells-part : (s : Stop) (tb sb old mid new : List ℕ) → StopsFor tb sb s → ToldBefore tb sb old mid s → IsToldPart (line_of_stop s) mid new → s ≢ stop.Memory → TellsPart tb sb old new
 tells-part (stop.Table e) tb sb old mid new why before part n = record { whole = line_of_stop (stop.Table e); due = table_refused e why; told = part-from _ old mid new before part }

@@ -4,7 +4,7 @@ ghost use Rattle.apex_types.specs.Rows.{Rows};
 ghost use Rattle.apex_model.specs.Layout.{layout_blocks};
 ghost use Rattle.rig_core.specs.Causes.{Rose};
 ghost use Rattle.rig_core.specs.Leaves.{Leaves, LeavesPairs, IsAllSettled};
-ghost use Rattle.rig_core.specs.Outside.{AllNow, Later};
+ghost use Rattle.rig_core.specs.Outside.{AllNow, IsToldPart, Later};
 ghost use Rattle.table_model.specs.Table.{table_of};
 ghost use Rattle.table_model.specs.declared.errors.TableError.{TableError};
 ghost use Rattle.apex_host.specs.Commands.{EndsFormat};
@@ -50,6 +50,8 @@ fn format_image<T: Source, R: Rig>(alloc: Global, table: &mut T, rig: &mut R) ->
     ensures untouched { IfErr result (λ stop. (stop ≡ Stop.Device) ⊎ (rig.new ≡ rig.old)) }
     ensures kind { IfErr result IsFormatStop }
     ensures table_cause { result ≡ Err Stop.TableSource → Rose (T.faults table.old) (T.faults table.new) }
+    ensures good { OnOk result (T.faults table.new ≡ T.faults table.old) }
+    ensures first { IfErr result (λ stop. (stop ≡ Stop.TableSource) ⊎ (T.faults table.new ≡ T.faults table.old)) }
     ensures device_cause { result ≡ Err Stop.Device → Rose (R.state rig.old).read_faults (R.state rig.new).read_faults ⊎ Rose (R.state rig.old).write_faults (R.state rig.new).write_faults }
     ensures later { Later (R.state rig.old) (R.state rig.new) }
 {
@@ -66,6 +68,7 @@ fn format_image<T: Source, R: Rig>(alloc: Global, table: &mut T, rig: &mut R) ->
 }
 
 /// Makes the device the empty image of the table that the source gives, tells its number of blocks, and answers the status.
+/// Where a read of the source fails, that is told, whatever was read before.
 pub fn format_device<T: Source, R: Rig>(alloc: Global, table: &mut T, rig: &mut R) -> Status
     requires settled { IsAllSettled (R.state rig.old) }
     ensures done_read { (bytes : List ℕ) → T.left table.old ≡ Some bytes → result ≡ Status.Done → T.left table.new ≡ Some [] }
@@ -84,6 +87,8 @@ pub fn format_device<T: Source, R: Rig>(alloc: Global, table: &mut T, rig: &mut 
         → ¬ (Rose (T.faults table.old) (T.faults table.new)) → ¬ (Rose (R.state rig.old).tell_faults (R.state rig.new).tell_faults)
         → (result ≡ Status.ImageRefused) ⊎ (result ≡ Status.OutOfMemory) }
     ensures source_cause { result ≡ Status.SourceFault → Rose (T.faults table.old) (T.faults table.new) }
+    ensures table_first { (T.faults table.new ≡ T.faults table.old) ⊎ ((result ≡ Status.SourceFault) ⊎ (result ≡ Status.ReplyFault)) }
+    ensures table_first_part { R.tells_text → (T.faults table.new ≡ T.faults table.old) ⊎ IsToldPart table_fault_line (R.state rig.old).told (R.state rig.new).told }
     ensures device_cause { result ≡ Status.DeviceFault → Rose (R.state rig.old).read_faults (R.state rig.new).read_faults ⊎ Rose (R.state rig.old).write_faults (R.state rig.new).write_faults }
     ensures reply_cause { result ≡ Status.ReplyFault → Rose (R.state rig.old).tell_faults (R.state rig.new).tell_faults }
     ensures table_told { R.tells_text → (bytes : List ℕ) → T.left table.old ≡ Some bytes → result ≡ Status.TableRefused → TellsTableRefused bytes (R.state rig.old).told (R.state rig.new).told }

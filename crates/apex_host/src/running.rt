@@ -1,15 +1,16 @@
 //! The command `run`.
-ghost use Rattle.std.specs.Prelude.{◌≡◌, ◌⊎◌, ◌≤◌, ℕ, List, [], Some, Ok, Err, IfErr, OnOk};
+ghost use Rattle.std.specs.Prelude.{◌≡◌, ◌++◌, ◌⊎◌, ◌≤◌, ℕ, List, [], Some, Ok, Err, IfErr, OnOk};
 ghost use Rattle.apex_types.specs.Rows.{Rows};
 ghost use Rattle.apex_types.specs.declared.calls.Line.{Line};
 ghost use Rattle.rig_core.specs.Causes.{Rose};
+ghost use Rattle.rig_core.specs.Outside.{IsToldPart};
 ghost use Rattle.table_model.specs.Table.{table_of};
 ghost use Rattle.table_model.specs.declared.errors.TableError.{TableError};
 ghost use Rattle.script_model.specs.Script.{Refusal, script_of};
 ghost use Rattle.apex_host.specs.Commands.{EndsRun};
 ghost use Rattle.apex_host.specs.Disk.{OnlyTells};
 ghost use Rattle.apex_host.specs.Stops.{StopsFor, ToldBefore, IsQuiet, IsRunStop, SaysOfTable};
-ghost use Rattle.apex_host.specs.Told.{AcceptsTable, AcceptsBoth, TellsRun, TellsTableRefused, TellsScriptRefused, TellsSourceFault, TellsSome, TellsPart};
+ghost use Rattle.apex_host.specs.Told.{AcceptsTable, AcceptsBoth, TellsRun, TellsTableRefused, TellsScriptRefused, TellsSourceFault, TellsSome, TellsPart, table_fault_line, script_fault_line};
 
 use crate::accepting::{accepted_script, accepted_table};
 use crate::lines::{LineStop, carry_out};
@@ -40,6 +41,10 @@ fn execute<T: Source, S: Source, R: Rig>(
     ensures quiet { R.tells_text → IfErr result (IsQuiet (R.state rig.old).told (R.state rig.new).told) }
     ensures table_cause { result ≡ Err Stop.TableSource → Rose (T.faults table.old) (T.faults table.new) }
     ensures script_cause { result ≡ Err Stop.ScriptSource → Rose (S.faults script.old) (S.faults script.new) }
+    ensures good { OnOk result ((T.faults table.new ≡ T.faults table.old) × (S.faults script.new ≡ S.faults script.old)) }
+    ensures table_first { IfErr result (λ stop. (stop ≡ Stop.TableSource) ⊎ (T.faults table.new ≡ T.faults table.old)) }
+    ensures script_first { IfErr result (λ stop. (stop ≡ Stop.ScriptSource) ⊎ (S.faults script.new ≡ S.faults script.old)) }
+    ensures script_unread { (T.faults table.new ≡ T.faults table.old) ⊎ (script.new ≡ script.old) }
     ensures tell_cause { result ≡ Err Stop.Tell → Rose (R.state rig.old).tell_faults (R.state rig.new).tell_faults }
     ensures later { (R.state rig.old).tell_faults ≤ (R.state rig.new).tell_faults }
     ensures table_read { (table_bytes : List ℕ) → T.left table.old ≡ Some table_bytes → OnOk result (AcceptsTable table_bytes) }
@@ -67,6 +72,7 @@ fn execute<T: Source, S: Source, R: Rig>(
 }
 
 /// Carries out the script that the sources give, from the state of a module with nothing stored, and answers the status.
+/// Where a read of a source fails, that is told, whatever was read before; the script's is read only behind an accepted table.
 pub fn run<T: Source, S: Source, R: Rig>(
     alloc: Global,
     table: &mut T,
@@ -90,6 +96,13 @@ pub fn run<T: Source, S: Source, R: Rig>(
         → (result ≡ Status.ScriptRefused) ⊎ (result ≡ Status.OutOfMemory) }
     ensures source_cause { result ≡ Status.SourceFault → Rose (T.faults table.old) (T.faults table.new) ⊎ Rose (S.faults script.old) (S.faults script.new) }
     ensures source_order { (table_bytes : List ℕ) → T.left table.old ≡ Some table_bytes → result ≡ Status.SourceFault → Rose (T.faults table.old) (T.faults table.new) ⊎ AcceptsTable table_bytes }
+    ensures table_first { (T.faults table.new ≡ T.faults table.old) ⊎ ((result ≡ Status.SourceFault) ⊎ (result ≡ Status.ReplyFault)) }
+    ensures script_first { (S.faults script.new ≡ S.faults script.old) ⊎ ((result ≡ Status.SourceFault) ⊎ (result ≡ Status.ReplyFault)) }
+    ensures script_unread { (T.faults table.new ≡ T.faults table.old) ⊎ (script.new ≡ script.old) }
+    ensures table_first_told { R.tells_text → result ≡ Status.SourceFault → (T.faults table.new ≡ T.faults table.old) ⊎ ((R.state rig.new).told ≡ (R.state rig.old).told ++ table_fault_line) }
+    ensures script_first_told { R.tells_text → result ≡ Status.SourceFault → (S.faults script.new ≡ S.faults script.old) ⊎ ((R.state rig.new).told ≡ (R.state rig.old).told ++ script_fault_line) }
+    ensures table_first_part { R.tells_text → (T.faults table.new ≡ T.faults table.old) ⊎ IsToldPart table_fault_line (R.state rig.old).told (R.state rig.new).told }
+    ensures script_first_part { R.tells_text → (S.faults script.new ≡ S.faults script.old) ⊎ IsToldPart script_fault_line (R.state rig.old).told (R.state rig.new).told }
     ensures reply_cause { result ≡ Status.ReplyFault → Rose (R.state rig.old).tell_faults (R.state rig.new).tell_faults }
     ensures table_told { R.tells_text → (table_bytes : List ℕ) → T.left table.old ≡ Some table_bytes
         → result ≡ Status.TableRefused → TellsTableRefused table_bytes (R.state rig.old).told (R.state rig.new).told }

@@ -11,7 +11,7 @@ ghost use Rattle.table_model.specs.declared.errors.TableError.{TableError};
 ghost use Rattle.script_model.specs.Script.{Refusal, script_of};
 ghost use Rattle.apex_host.specs.Commands.{command_of_words, CanEnd};
 ghost use Rattle.apex_host.specs.Disk.{IsUntouched, OldOrFormats, HoldsNothing, IsTooSmall};
-ghost use Rattle.apex_host.specs.Told.{AcceptsTable, TellsRun, TellsTableRefused, TellsScriptRefused, TellsSourceFault, TellsSome, TellsPart, usage_line, table_fault_line};
+ghost use Rattle.apex_host.specs.Told.{AcceptsTable, TellsRun, TellsTableRefused, TellsScriptRefused, TellsSourceFault, TellsSome, TellsPart, usage_line, table_fault_line, script_fault_line};
 ghost use Rattle.apex_host.specs.ToldFormat.{TellsFormatted, TellsTooSmall, TellsFormatPart, device_fault_line};
 
 use crate::command::{Command, command_of};
@@ -84,6 +84,17 @@ pub fn host<T: Source, S: Source, R: Rig>(
     ensures source_order { (table_bytes : List ℕ) → T.left table.old ≡ Some table_bytes → result ≡ Status.SourceFault → Rose (T.faults table.old) (T.faults table.new) ⊎ AcceptsTable table_bytes }
     ensures device_cause { result ≡ Status.DeviceFault → Rose (R.state rig.old).read_faults (R.state rig.new).read_faults ⊎ Rose (R.state rig.old).write_faults (R.state rig.new).write_faults }
     ensures reply_cause { result ≡ Status.ReplyFault → Rose (R.state rig.old).tell_faults (R.state rig.new).tell_faults }
+
+    // A count of a source's faults is as it was, or that is what is told, whatever was read before; nothing is read for other words.
+    ensures table_first { (T.faults table.new ≡ T.faults table.old) ⊎ ((result ≡ Status.SourceFault) ⊎ (result ≡ Status.ReplyFault)) }
+    ensures script_first { (S.faults script.new ≡ S.faults script.old) ⊎ ((result ≡ Status.SourceFault) ⊎ (result ≡ Status.ReplyFault)) }
+    ensures script_unread { (T.faults table.new ≡ T.faults table.old) ⊎ (script.new ≡ script.old) }
+    ensures table_first_told { R.tells_text → result ≡ Status.SourceFault → (T.faults table.new ≡ T.faults table.old) ⊎ ((R.state rig.new).told ≡ (R.state rig.old).told ++ table_fault_line) }
+    ensures script_first_told { R.tells_text → result ≡ Status.SourceFault → (S.faults script.new ≡ S.faults script.old) ⊎ ((R.state rig.new).told ≡ (R.state rig.old).told ++ script_fault_line) }
+    ensures table_first_part { R.tells_text → (T.faults table.new ≡ T.faults table.old) ⊎ IsToldPart table_fault_line (R.state rig.old).told (R.state rig.new).told }
+    ensures script_first_part { R.tells_text → (S.faults script.new ≡ S.faults script.old) ⊎ IsToldPart script_fault_line (R.state rig.old).told (R.state rig.new).told }
+    ensures usage_unread { command_of_words words.now ≡ None → (table.new ≡ table.old) × (script.new ≡ script.old) }
+    ensures format_unread { command_of_words words.now ≡ Some Command.Format → script.new ≡ script.old }
 
     // What is told at each status.
     ensures usage_told { R.tells_text → result ≡ Status.Usage → (R.state rig.new).told ≡ (R.state rig.old).told ++ usage_line }

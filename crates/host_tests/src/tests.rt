@@ -248,6 +248,38 @@ fn each_read_of_a_source_can_fail(rt: HostRuntime) -> Result<(), Fail> {
     Ok(())
 }
 
+/// Whether a command ends at a source that failed, and tells so, where these reads fail.
+fn ends_at_a_source(
+    alloc: Global,
+    word: &[u8],
+    table: &[u8],
+    table_read: u64,
+    script: &[u8],
+    script_read: u64,
+    told: &[u8],
+) -> Result<bool, OutOfMemory> {
+    let mut words = Words::new(alloc);
+    words.push(word)?;
+    let mut table = source(alloc, table, table_read)?;
+    let mut script = source(alloc, script, script_read)?;
+    let mut rig = rig(alloc, 0)?;
+    let ended = host(alloc, &words, &mut table, &mut script, &mut rig);
+    Ok(ended == Status::SourceFault && rig.told() == told)
+}
+
+/// The first read gives bytes that are refused where the second finds the end; here the second fails.
+#[test]
+fn a_read_that_fails_comes_before_bytes_that_are_refused(rt: HostRuntime) -> Result<(), Fail> {
+    let alloc = rt.alloc();
+    let table = b"source fault table\n";
+    assert!(rt; ends_at_a_source(alloc, b"run", KEY_ADDED, 2, FIRST_RUN, 0, table)?);
+    assert!(rt; ends_at_a_source(alloc, b"format", KEY_ADDED, 2, FIRST_RUN, 0, table)?);
+    let call = b"FMS NO_SUCH_CALL\n";
+    let script = b"source fault script\n";
+    assert!(rt; ends_at_a_source(alloc, b"run", SMALL, 0, call, 2, script)?);
+    Ok(())
+}
+
 #[test]
 fn each_telling_can_fail(rt: HostRuntime) -> Result<(), Fail> {
     let alloc = rt.alloc();

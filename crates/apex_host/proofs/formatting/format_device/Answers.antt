@@ -1,4 +1,4 @@
-use Rattle.std.proofs.Common.{◌≡◌, ℕ, ◌*◌, ◌<◌, ◌≤◌, List, ◌++◌, sym, ◌∙◌, ap, subst, arith}
+use Rattle.std.proofs.Common.{◌≡◌, ℕ, ◌*◌, ◌<◌, ◌≤◌, inl, inr, ⊎_elim, List, ◌++◌, sym, ◌∙◌, ap, subst, arith}
 use Rattle.apex_types.specs.Rows.{Rows}
 use Rattle.apex_model.specs.Layout.{layout_blocks}
 use Rattle.rig_core.specs.Outside.{IsToldPart}
@@ -7,6 +7,7 @@ use Rattle.apex_host.specs.Stops.{line_of_stop}
 use Rattle.apex_host.specs.ToldFormat.{formatted, formatted_line}
 use Rattle.apex_host.specs.declared.status.Status.TheVariants.{OutOfMemory, ReplyFault}
 use Rattle.apex_host.proofs.Disks.{tells-all_now, leaves-told}
+use Rattle.apex_host.proofs.Endings.{ends-table-fault, part-of-table-line}
 use Rattle.apex_host.proofs.FormatEndings.{accepted-refused, same-table, part-of-format}
 use Rattle.apex_host.proofs.formatting.format_device.Goals as goal
 
@@ -66,3 +67,13 @@ returns-in-Err-clause-reply_told g c = λ tells bytes is h.
     let part = subst (λ (x : List ℕ). IsToldPart (line_of_stop c.in-Err.stop) x new) c.in-Err.ensures.told (c.refused.ensures.part tells) in
     part-of-format c.in-Err.stop bytes (g.R.Rig.state c.args.rig.now).size (g.R.Rig.state c.args.rig.now).told new (c.in-Err.ensures.stopped bytes is) part
     (λ is. let w : OutOfMemory ≡ ReplyFault = sym (c.refused.ensures.starved is) ∙ h in cc)
+
+pub returns-in-Err-clause-table_first : goal.returns-in-Err-clause-table_first
+returns-in-Err-clause-table_first g c = ⊎_elim (λ is. inr (ends-table-fault c.in-Err.stop c.refused.result c.refused.ensures.status is)) (λ same. inl same) c.in-Err.ensures.first
+
+pub returns-in-Err-clause-table_first_part : goal.returns-in-Err-clause-table_first_part
+returns-in-Err-clause-table_first_part g c = λ tells.
+    let old = (g.R.Rig.state c.args.rig.now).told in
+    let mid = (g.R.Rig.state c.format_image.new.rig).told in
+    let new = (g.R.Rig.state c.refused.new.rig).told in
+    ⊎_elim (λ is. inr (part-of-table-line c.in-Err.stop old mid new c.in-Err.ensures.told (c.refused.ensures.part tells) is)) (λ same. inl same) c.in-Err.ensures.first
