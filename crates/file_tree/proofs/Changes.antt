@@ -12,7 +12,7 @@ use Rattle.file_tree.specs.declared.entries.Entry.{Entry}
 use Rattle.file_tree.specs.Entries.{TreeValue, slot, way_of, path_in, with_file, with_directory, without_file, without_directory, with_file_at, Place, in_file, in_directory, path_at, put_all, nodes_of, no_entries, stored_of, with_stored, AreDistinct}
 use Rattle.file_tree.specs.Table.{path_of, way, paths, stored_at, entry_with, stored_in, value_of, HaveParents, AreSound}
 use Rattle.file_tree.proofs.Paths.{Changed, changed_file, changed_directory, put_distinct, put_nodes, without_distinct, without_nodes, at_found}
-use Rattle.file_tree.proofs.Ways.{not_some, path-made, way-higher, way-grown, way-shrunk, slot-paths, paths-same, way_of-value, free-some, free-paths}
+use Rattle.file_tree.proofs.Ways.{not_some, path-made, path-used, way-higher, way-grown, way-shrunk, slot-paths, paths-same, way_of-value, free-some, free-paths}
 
 pub some_is : {A : Type 0} (o : Option A) → IsSome o → (x : A) × (o ≡ Some x)
 some_is None h = absurd (let e : false ≡ true = h in cc)
@@ -302,6 +302,19 @@ unfolding value_of
 stored-seen files directories v is k =
     ap (λ (v : TreeValue). stored_of v k) (sym is) ∙ ap (λ (o : Option (ℕ × ℕ)). unwrap_or o (0, 0)) (slot-stored files k)
     ∙ (elim (slot files k) as (λ o. unwrap_or (option_map (λ (e : Entry). e.stored) o) (0, 0) ≡ stored_at o) [ None ↦ refl | Some e ↦ refl ])
+
+-- of an entry that no file uses nothing is
+pub stored-none : (files directories : List (Option Entry)) (v : TreeValue) → value_of files directories ≡ v → AreSound files directories → (k : ℕ) → slot v.files k ≡ None → stored_of v k ≡ (0, 0)
+unfolding value_of
+stored-none files directories v is sound k none =
+    stored-seen files directories v is k
+    ∙ (elim (slot files k) as (λ (o : Option Entry). slot files k ≡ o → stored_at o ≡ (0, 0)) [
+      | None ↦ λ e. refl
+      | Some entry ↦ λ e.
+          let used : IsSome (slot (paths directories files) k) = path-used directories files sound.file_parents k entry e in
+          let gone : slot (paths directories files) k ≡ None = ap (λ (v : TreeValue). slot v.files k) is ∙ none in
+          absurd (let h : false ≡ true = subst IsSome gone used in cc)
+    ]) refl
 
 -- what is stored of an entry, as callers see it
 pub stored-here : (files directories : List (Option Entry)) (v : TreeValue) → value_of files directories ≡ v → (k : ℕ) (entry : Entry) → slot files k ≡ Some entry → stored_of v k ≡ entry.stored

@@ -1,4 +1,4 @@
-ghost use Rattle.std.specs.Prelude.{◌≡◌, ◌+◌, ◌-◌, ◌*◌, ◌<◌, ◌≤◌, ◌≢◌, ℕ, [], length, take, drop, slice_index, slice_set, unwrap_or, None, Some, IsSome, IfOk, IfErr, IfSome, MatchResult};
+ghost use Rattle.std.specs.Prelude.{◌≡◌, ◌+◌, ◌-◌, ◌*◌, ◌<◌, ◌≤◌, ◌≢◌, ℕ, [], length, take, drop, slice_index, slice_set, unwrap_or, None, Some, IsSome, IfOk, IfErr, IfSome, IfNone, MatchResult};
 ghost use Rattle.apex_model.specs.Handles.{free_from};
 ghost use Rattle.apex_model.specs.Trees.{standing_at, walk, entries_within, file_count};
 ghost use Rattle.file_tree.specs.Entries.{slot, way_of, path_in, no_entries, stored_of, with_stored, with_file, with_directory, without_file, without_directory, with_file_at, IsSpotAt, IsNextSpot, IsConsistent};
@@ -121,6 +121,28 @@ impl Tree {
         Ok(self.spot(parent, path.names.at(count - 1)))
     }
 
+    /// The least entry that no file uses, if there is one.
+    pub fn free_file(&self) -> Option<FileNode>
+        ensures least { IfSome result (λ f. free_from 0 self.now.files ≡ Some f.0) }
+        ensures full { IfNone result (free_from 0 self.now.files ≡ None) }
+    {
+        match free_place(&self.files) {
+            None => None,
+            Some(k) => Some(FileNode(k as u8)),
+        }
+    }
+
+    /// The least entry that no directory uses, if there is one.
+    pub fn free_directory(&self) -> Option<DirNode>
+        ensures least { IfSome result (λ d. free_from 1 self.now.directories ≡ Some d.0) }
+        ensures full { IfNone result (free_from 1 self.now.directories ≡ None) }
+    {
+        match free_place(&self.directories) {
+            None => None,
+            Some(k) => Some(DirNode(k as u8 + 1)),
+        }
+    }
+
     /// Makes a file of this name at the least unused entry.
     /// ENOSPC comes exactly where all entries for files are used; nothing changes then.
     pub fn make_file(&mut self, parent: DirNode, name: Name) -> Result<FileNode, Errno>
@@ -190,6 +212,7 @@ impl Tree {
     pub fn stored(&self, file: FileNode) -> (u32, u32)
         ensures value { result ≡ stored_of self.now file.0 }
         ensures fits { (stored_of self.now file.0).0 ≤ 1048576 }
+        ensures unused { slot self.now.files file.0 ≡ None → stored_of self.now file.0 ≡ (0, 0) }
     {
         stored_at(&self.files, file.0 as usize).both()
     }

@@ -3,7 +3,7 @@ use Rattle.std.specs.Prelude.{ℕ}
 use Rattle.file_tree.specs.declared.entries.Entry.{Entry}
 use Rattle.file_tree.specs.Entries.{slot}
 use Rattle.file_tree.specs.Table.{stored_at}
-use Rattle.file_tree.proofs.Changes.{stored-seen}
+use Rattle.file_tree.proofs.Changes.{stored-seen, stored-none}
 use Rattle.file_tree.proofs.tree.Tree.stored.Goals as goal
 
 pub returns-clause-value : goal.returns-clause-value
@@ -11,3 +11,6 @@ returns-clause-value c = c.both.ensures.value ∙ c.stored_at.ensures ∙ ap (λ
 
 pub returns-clause-fits : goal.returns-clause-fits
 returns-clause-fits c = subst (λ (st : ℕ × ℕ). st.0 ≤ 1048576) (c.stored_at.ensures ∙ ap (λ (xs : List (Option Entry)). stored_at (slot xs c.args.file.0)) c.deref.ensures.value ∙ sym (stored-seen _ _ _ c.self.view_is c.args.file.0)) c.both.ensures.fits
+
+pub returns-clause-unused : goal.returns-clause-unused
+returns-clause-unused c = λ none. stored-none _ _ _ c.self.view_is c.self.invariant c.args.file.0 none
