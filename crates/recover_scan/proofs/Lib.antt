@@ -1,4 +1,5 @@
 pub mod Changes
+pub mod Differences
 pub mod Fresh
 pub mod Gate
 pub mod Ordered

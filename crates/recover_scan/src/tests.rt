@@ -2,7 +2,7 @@ ghost use Rattle.std.specs.Prelude.{IfOk};
 ghost use Rattle.apex_model.specs.Accepted.{IsAccepted};
 ghost use Rattle.rig_core.specs.MemRig.{Begins};
 
-use crate::{FormatError, format};
+use crate::{FormatError, format, read_superblock};
 use apex_types::{ByteList, CallKind, FailList, Table};
 use config_table::{read_table, table_bytes};
 use rig_core::{MemRig, Rig};
@@ -216,5 +216,69 @@ fn errors_are_told(rt: HostRuntime) -> Result<(), Fail> {
         let told = format!(in alloc; "{error}")?;
         assert_eq!(rt; told.as_str(), text);
     }
+    Ok(())
+}
+
+// What is answered of the empty image with another byte at a place, as text; nothing where it is one of the table.
+fn refusal(alloc: Global, at: u64, byte: u8) -> Result<String, Fail> {
+    let table = small(alloc)?;
+    let image = sevens(alloc, BYTES, 0xA5)?;
+    let mut rig = rig_of(alloc, &image, FailList::new(alloc))?;
+    if format(alloc, &mut rig, &table).is_err() {
+        return Err(Fail::from("format"));
+    }
+    let mut bytes = rig.view().to_vec(alloc)?;
+    put(&mut bytes, at, &[byte]);
+    let mut changed = rig_of(alloc, &bytes, FailList::new(alloc))?;
+    match read_superblock(alloc, &mut changed, &table) {
+        Ok(()) => Ok(String::new(alloc)),
+        Err(error) => Ok(format!(in alloc; "{error}")?),
+    }
+}
+
+#[test]
+fn a_superblock_is_one_of_its_table_or_refused(rt: HostRuntime) -> Result<(), Fail> {
+    let alloc = rt.alloc();
+    let rows = [
+        (1, 7, ""),
+        (0, 0xA4, "the image is not formatted"),
+        // The canonical bytes of the small table are 62, behind 4 of their length.
+        (512, 63, "the image is of another table: place 0"),
+        (577, 7, "the image is of another table: place 65"),
+        (578, 7, ""),
+    ];
+    for (at, byte, text) in rows {
+        assert_eq!(rt; refusal(alloc, at, byte)?.as_str(), text);
+    }
+    Ok(())
+}
+
+#[test]
+fn a_superblock_that_cannot_be_read_is_a_fault(rt: HostRuntime) -> Result<(), Fail> {
+    let alloc = rt.alloc();
+    let table = small(alloc)?;
+    for number in 1..3u64 {
+        let mut failing = FailList::new(alloc);
+        failing.push(CallKind::Read, number)?;
+        let image = sevens(alloc, BYTES, 0xA5)?;
+        let mut rig = rig_of(alloc, &image, failing)?;
+        match read_superblock(alloc, &mut rig, &table) {
+            Err(error) => {
+                let told = format!(in alloc; "{error}")?;
+                assert_eq!(rt; told.as_str(), "the device failed");
+            }
+            Ok(()) => return Err(Fail::from("good")),
+        }
+    }
+    let image = sevens(alloc, BYTES - 1, 0xA5)?;
+    let mut rig = rig_of(alloc, &image, FailList::new(alloc))?;
+    let Err(error) = read_superblock(alloc, &mut rig, &table) else {
+        return Err(Fail::from("large"));
+    };
+    let told = format!(in alloc; "{error}")?;
+    assert_eq!(rt;
+        told.as_str(),
+        "the device is too small: 100864 bytes are wanted"
+    );
     Ok(())
 }
