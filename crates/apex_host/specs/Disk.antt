@@ -5,7 +5,7 @@ use Rattle.apex_model.specs.Image.{state_of, not_formatted}
 use Rattle.apex_model.specs.Layout.{layout_blocks}
 use Rattle.rig_core.specs.Leaves.{LeavesPairs}
 use Rattle.rig_core.specs.Outside.{Outside, Now, AllNow}
-use Rattle.recover_scan.specs.Format.{IsFormatted}
+use Rattle.recover_scan.specs.Format.{IsFormatted, IsWholeEmpty}
 use Rattle.table_model.specs.Table.{table_of}
 
 -- an image that a cut might have left before, whatever was told
@@ -43,6 +43,12 @@ pub record HoldsNothing (table_bytes image : List ℕ) : Type 0 where
   pub table : Rows
   pub accepted : table_of table_bytes ≡ Ok table
   pub formatted : IsFormatted table image
+
+-- the table is accepted, and each byte of the image is the one that its format leaves behind the old image
+pub record HoldsFormat (table_bytes old image : List ℕ) : Type 0 where
+  pub table : Rows
+  pub accepted : table_of table_bytes ≡ Ok table
+  pub whole : IsWholeEmpty table old image
 
 -- the table is accepted, and its image is larger than a device of this size; so many bytes are wanted
 pub record IsTooSmall (table_bytes : List ℕ) (size wanted : ℕ) : Type 0 where

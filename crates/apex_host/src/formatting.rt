@@ -5,10 +5,11 @@ ghost use Rattle.apex_model.specs.Layout.{layout_blocks};
 ghost use Rattle.rig_core.specs.Causes.{Rose};
 ghost use Rattle.rig_core.specs.Leaves.{Leaves, LeavesPairs, IsAllSettled};
 ghost use Rattle.rig_core.specs.Outside.{AllNow, IsToldPart, Later};
+ghost use Rattle.recover_scan.specs.Format.{KeepsRest};
 ghost use Rattle.table_model.specs.Table.{table_of};
 ghost use Rattle.table_model.specs.declared.errors.TableError.{TableError};
 ghost use Rattle.apex_host.specs.Commands.{EndsFormat};
-ghost use Rattle.apex_host.specs.Disk.{OnlyTells, OldOrFormats, HoldsNothing, IsTooSmall, HasRoom, HasBlocks};
+ghost use Rattle.apex_host.specs.Disk.{OnlyTells, OldOrFormats, HoldsNothing, HoldsFormat, IsTooSmall, HasRoom, HasBlocks};
 ghost use Rattle.apex_host.specs.Stops.{IsFormatStop, StopsFormat};
 ghost use Rattle.apex_host.specs.Told.{TellsTableRefused, table_fault_line};
 ghost use Rattle.apex_host.specs.ToldFormat.{TellsFormatted, TellsTooSmall, TellsFormatPart, formatted_line, device_fault_line};
@@ -43,7 +44,10 @@ fn format_image<T: Source, R: Rig>(alloc: Global, table: &mut T, rig: &mut R) ->
     ensures room { (bytes : List ℕ) → T.left table.old ≡ Some bytes → OnOk result (HasRoom bytes (R.state rig.old).size) }
     ensures formatted { (bytes : List ℕ) → T.left table.old ≡ Some bytes → OnOk result (AllNow (HoldsNothing bytes) (R.state rig.new)) }
     ensures shown { R.tells_view → (bytes : List ℕ) → T.left table.old ≡ Some bytes → OnOk result (HoldsNothing bytes (R.state rig.new).view) }
+    ensures whole { (bytes : List ℕ) → T.left table.old ≡ Some bytes → OnOk result (AllNow (HoldsFormat bytes (R.state rig.old).view) (R.state rig.new)) }
+    ensures whole_shown { R.tells_view → (bytes : List ℕ) → T.left table.old ≡ Some bytes → OnOk result (HoldsFormat bytes (R.state rig.old).view (R.state rig.new).view) }
     ensures settled { OnOk result (IsAllSettled (R.state rig.new)) }
+    ensures rest { (bytes : List ℕ) (rows : Rows) → T.left table.old ≡ Some bytes → table_of bytes ≡ Ok rows → Leaves (KeepsRest rows (R.state rig.old).view) (R.state rig.old) (R.state rig.new) }
     ensures any_moment { (bytes : List ℕ) → T.left table.old ≡ Some bytes → Leaves (OldOrFormats bytes (R.state rig.old).view) (R.state rig.old) (R.state rig.new) }
     ensures told { (R.state rig.new).told ≡ (R.state rig.old).told }
     ensures stopped { (bytes : List ℕ) → T.left table.old ≡ Some bytes → IfErr result (StopsFormat bytes (R.state rig.old).size) }
@@ -75,6 +79,10 @@ pub fn format_device<T: Source, R: Rig>(alloc: Global, table: &mut T, rig: &mut 
     ensures done_told { R.tells_text → (bytes : List ℕ) → T.left table.old ≡ Some bytes → result ≡ Status.Done → TellsFormatted bytes (R.state rig.old).told (R.state rig.new).told }
     ensures done_images { (bytes : List ℕ) → T.left table.old ≡ Some bytes → result ≡ Status.Done → AllNow (HoldsNothing bytes) (R.state rig.new) }
     ensures done_shown { R.tells_view → (bytes : List ℕ) → T.left table.old ≡ Some bytes → result ≡ Status.Done → HoldsNothing bytes (R.state rig.new).view }
+    ensures done_whole { (bytes : List ℕ) → T.left table.old ≡ Some bytes → result ≡ Status.Done → AllNow (HoldsFormat bytes (R.state rig.old).view) (R.state rig.new) }
+    ensures done_whole_shown { R.tells_view → (bytes : List ℕ) → T.left table.old ≡ Some bytes → result ≡ Status.Done → HoldsFormat bytes (R.state rig.old).view (R.state rig.new).view }
+    ensures rest { (bytes : List ℕ) (rows : Rows) → T.left table.old ≡ Some bytes → table_of bytes ≡ Ok rows
+        → LeavesPairs (λ image told. KeepsRest rows (R.state rig.old).view image) (R.state rig.old) (R.state rig.new) }
     ensures any_moment { (bytes : List ℕ) → T.left table.old ≡ Some bytes → LeavesPairs (λ image told. OldOrFormats bytes (R.state rig.old).view image) (R.state rig.old) (R.state rig.new) }
     ensures can_end { EndsFormat result }
     ensures untouched { (result ≡ Status.Done) ⊎ ((result ≡ Status.DeviceFault) ⊎ ((result ≡ Status.ReplyFault) ⊎ OnlyTells R.tells_view (R.state rig.old) (R.state rig.new))) }

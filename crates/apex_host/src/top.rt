@@ -6,11 +6,12 @@ ghost use Rattle.apex_model.specs.Layout.{layout_blocks};
 ghost use Rattle.rig_core.specs.Causes.{Rose};
 ghost use Rattle.rig_core.specs.Leaves.{LeavesPairs, IsAllSettled};
 ghost use Rattle.rig_core.specs.Outside.{AllNow, IsToldPart};
+ghost use Rattle.recover_scan.specs.Format.{KeepsRest};
 ghost use Rattle.table_model.specs.Table.{table_of};
 ghost use Rattle.table_model.specs.declared.errors.TableError.{TableError};
 ghost use Rattle.script_model.specs.Script.{Refusal, script_of};
 ghost use Rattle.apex_host.specs.Commands.{command_of_words, CanEnd};
-ghost use Rattle.apex_host.specs.Disk.{IsUntouched, OldOrFormats, HoldsNothing, IsTooSmall};
+ghost use Rattle.apex_host.specs.Disk.{IsUntouched, OldOrFormats, HoldsNothing, HoldsFormat, IsTooSmall};
 ghost use Rattle.apex_host.specs.Told.{AcceptsTable, TellsRun, TellsTableRefused, TellsScriptRefused, TellsSourceFault, TellsSome, TellsPart, usage_line, table_fault_line, script_fault_line};
 ghost use Rattle.apex_host.specs.ToldFormat.{TellsFormatted, TellsTooSmall, TellsFormatPart, device_fault_line};
 
@@ -55,6 +56,14 @@ pub fn host<T: Source, S: Source, R: Rig>(
         → command_of_words words.now ≡ Some Command.Format → result ≡ Status.Done → AllNow (HoldsNothing table_bytes) (R.state rig.new) }
     ensures format_shown { R.tells_view → (table_bytes : List ℕ) → T.left table.old ≡ Some table_bytes
         → command_of_words words.now ≡ Some Command.Format → result ≡ Status.Done → HoldsNothing table_bytes (R.state rig.new).view }
+
+    // Each byte of it is then the one that a format leaves, and at every moment the data blocks and all else that a format doesn't write are as they were.
+    ensures format_whole { (table_bytes : List ℕ) → T.left table.old ≡ Some table_bytes
+        → command_of_words words.now ≡ Some Command.Format → result ≡ Status.Done → AllNow (HoldsFormat table_bytes (R.state rig.old).view) (R.state rig.new) }
+    ensures format_whole_shown { R.tells_view → (table_bytes : List ℕ) → T.left table.old ≡ Some table_bytes
+        → command_of_words words.now ≡ Some Command.Format → result ≡ Status.Done → HoldsFormat table_bytes (R.state rig.old).view (R.state rig.new).view }
+    ensures format_rest { (table_bytes : List ℕ) (rows : Rows) → T.left table.old ≡ Some table_bytes → table_of table_bytes ≡ Ok rows
+        → command_of_words words.now ≡ Some Command.Format → LeavesPairs (λ image told. KeepsRest rows (R.state rig.old).view image) (R.state rig.old) (R.state rig.new) }
 
     // At every moment of `format` a cut leaves the image as it was, one that is not formatted, or the empty one; all else leaves the disk as it was.
     ensures any_moment { (table_bytes : List ℕ) → T.left table.old ≡ Some table_bytes

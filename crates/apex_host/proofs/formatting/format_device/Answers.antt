@@ -2,7 +2,8 @@ use Rattle.std.proofs.Common.{◌≡◌, ℕ, ◌*◌, ◌<◌, ◌≤◌, inl, 
 use Rattle.apex_types.specs.Rows.{Rows}
 use Rattle.apex_model.specs.Layout.{layout_blocks}
 use Rattle.rig_core.specs.Outside.{IsToldPart}
-use Rattle.apex_host.specs.Disk.{HoldsNothing, OldOrFormats}
+use Rattle.apex_host.specs.Disk.{HoldsNothing, HoldsFormat, OldOrFormats}
+use Rattle.recover_scan.specs.Format.{KeepsRest}
 use Rattle.apex_host.specs.Stops.{line_of_stop}
 use Rattle.apex_host.specs.ToldFormat.{formatted, formatted_line}
 use Rattle.apex_host.specs.declared.status.Status.TheVariants.{OutOfMemory, ReplyFault}
@@ -25,6 +26,16 @@ returns-in-Ok-clause-done_told g c = λ tells bytes is h.
 pub returns-in-Ok-clause-done_images : goal.returns-in-Ok-clause-done_images
 returns-in-Ok-clause-done_images g c = λ bytes is h.
     tells-all_now g.R.Rig.tells_view g.R.Rig.keeps_cuts (HoldsNothing bytes) (g.R.Rig.state c.format_image.new.rig) (g.R.Rig.state c.told.new.rig) (g.met.R.Rig.sound c.told.new.rig) c.told.ensures.disk (c.in-Ok.ensures.formatted bytes is)
+
+pub returns-in-Ok-clause-done_whole : goal.returns-in-Ok-clause-done_whole
+returns-in-Ok-clause-done_whole g c = λ bytes is h.
+    tells-all_now g.R.Rig.tells_view g.R.Rig.keeps_cuts (HoldsFormat bytes (g.R.Rig.state c.args.rig.now).view) (g.R.Rig.state c.format_image.new.rig) (g.R.Rig.state c.told.new.rig)
+    (g.met.R.Rig.sound c.told.new.rig) c.told.ensures.disk (c.in-Ok.ensures.whole bytes is)
+
+pub returns-in-Ok-clause-rest : goal.returns-in-Ok-clause-rest
+returns-in-Ok-clause-rest g c = λ bytes rows is accepted.
+    leaves-told g.R.Rig.tells_view g.R.Rig.keeps_cuts (KeepsRest rows (g.R.Rig.state c.args.rig.now).view) (g.R.Rig.state c.args.rig.now) (g.R.Rig.state c.format_image.new.rig) (g.R.Rig.state c.told.new.rig)
+    (g.met.R.Rig.sound c.format_image.new.rig) (c.in-Ok.ensures.rest bytes rows is accepted) c.told.ensures.disk
 
 pub returns-in-Ok-clause-any_moment : goal.returns-in-Ok-clause-any_moment
 returns-in-Ok-clause-any_moment g c = λ bytes is.
@@ -55,6 +66,11 @@ returns-in-Ok-clause-reply_told g c = λ tells bytes is h.
       due = formatted made.table made.accepted;
       told = subst (λ (x : List ℕ). IsToldPart x old new) line part;
     }
+
+pub returns-in-Err-clause-rest : goal.returns-in-Err-clause-rest
+returns-in-Err-clause-rest g c = λ bytes rows is accepted.
+    leaves-told g.R.Rig.tells_view g.R.Rig.keeps_cuts (KeepsRest rows (g.R.Rig.state c.args.rig.now).view) (g.R.Rig.state c.args.rig.now) (g.R.Rig.state c.format_image.new.rig) (g.R.Rig.state c.refused.new.rig)
+    (g.met.R.Rig.sound c.format_image.new.rig) (c.in-Err.ensures.rest bytes rows is accepted) c.refused.ensures.disk
 
 pub returns-in-Err-clause-any_moment : goal.returns-in-Err-clause-any_moment
 returns-in-Err-clause-any_moment g c = λ bytes is.
