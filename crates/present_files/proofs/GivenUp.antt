@@ -75,6 +75,7 @@ drop-one numbers now b c f k within room others gone is =
       files = length-set numbers f.0 (set (slice_index_or numbers f.0 []) k 0);
       rows = row-same numbers f.0 k within room;
       lists = others.lists;
+      count = others.count;
     })
 
 -- ---- one after the other
@@ -89,6 +90,7 @@ drop-none numbers b f from = record {
   files = refl;
   rows = λ g. refl;
   lists = refl;
+  count = refl;
 }
 
 pub drop-then : (x y z : List (List ℕ)) (p q r : Buffers) (f : FileNode) (from k : ℕ) → from ≤ k → AreDropped f from k x y p q → AreDropped f k (k + 1) y z q r → AreDropped f from (k + 1) x z p r
@@ -107,6 +109,7 @@ drop-then x y z p q r f from k order one two = record {
   files = two.files ∙ one.files;
   rows = λ g. two.rows g ∙ one.rows g;
   lists = two.lists ∙ one.lists;
+  count = two.count ∙ one.count;
 }
 
 -- ---- what holds then

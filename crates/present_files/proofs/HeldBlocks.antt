@@ -1,10 +1,10 @@
 -- Which node holds a block, and with which bytes, once a node took a block, was made free or was written.
 use Rattle.std.proofs.Common.{◌≡◌, ◌≢◌, ℕ, zero, suc, ◌+◌, ◌<◌, ◌≤◌, ◌==◌, Bool, true, false, cond, List, [], ◌∷◌, ◌++◌, map, length, set, take, replicate, get_or, Option, Some, None, refl, sym, ap, ◌∙◌, subst, inl, inr, arith, length-set, get_or-set_same, get_or-set_other}
-use Rattle.std.specs.Prelude.{IsSome, position, nat_lt, slice_index_or}
+use Rattle.std.specs.Prelude.{IsSome, position, nat_lt, slice_index_or, count_by, is_none}
 use Rattle.std.specs.List.{AllByRecursion, position_or_len}
 use Rattle.std.proofs.lemmas.Bool.{cases_eq, lt-ltb, le-ltb, and_parts, eqb-true, cond-true, cond-false, false≢true}
 use Rattle.std.proofs.lemmas.Bool.Decides.{nat_tests}
-use Rattle.std.proofs.lemmas.List.{length-replicate, length-map, get_or-map, take_all, append-nil, drop_all, length-append}
+use Rattle.std.proofs.lemmas.List.{length-replicate, length-map, get_or-map, take_all, append-nil, drop_all, length-append, set-set, set-get_or}
 use Rattle.std.proofs.lemmas.List.Folds.{position_or_len-set}
 use Rattle.std.proofs.lemmas.List.Quantifiers.{position-Some}
 use Rattle.std.proofs.lemmas.List.Sums.{position_or_len_is}
@@ -12,9 +12,10 @@ use Rattle.apex_types.specs.declared.numbers.FileNode.{FileNode}
 use Rattle.block_pool.specs.declared.buffers.Block.{Block}
 use Rattle.block_pool.specs.Lists.{list_at, node_count, without, moved, first_of}
 use Rattle.block_pool.specs.Buffers.{Buffers, AreBuffers, block_at, holds_block, list_of_block, node_of, with_taken, with_released, with_bytes, written_over}
-use Rattle.block_pool.proofs.Counts.{count_of, length-without, part_le}
-use Rattle.block_pool.proofs.Held.{not_held, held_itself, list_of_no_block}
-use Rattle.present_files.specs.Nodes.{IsOther, OthersStay, bytes_of, free_in, held_or}
+use Rattle.block_pool.proofs.Counts.{count_of, length-without, node_count-moved, part_le}
+use Rattle.block_pool.proofs.Free.{free_number}
+use Rattle.block_pool.proofs.Held.{AreBuffers-released, AreBuffers-taken, not_held, held_itself, list_of_no_block}
+use Rattle.present_files.specs.Nodes.{AllStay, AreHeld, HoldsMore, IsOther, OthersStay, bytes_of, free_in, held_or}
 
 -- ---- first places
 
@@ -103,6 +104,7 @@ module _ (b : Buffers) (f : FileNode) (k : ℕ) where
       nodes = λ g j other. others-nodes-released g j other;
       bytes = λ stored g j other. ap (bytes_of b stored) (others-nodes-released g j other);
       lists = length-set (map (without node) b.lists) 0 (list_at (map (without node) b.lists) 0 ++ node ∷ []) ∙ length-map b.lists (without node);
+      count = refl;
     }
 
     -- a node that is written has the new bytes
@@ -123,6 +125,7 @@ module _ (b : Buffers) (f : FileNode) (k : ℕ) where
       nodes = λ g j other. refl;
       bytes = λ stored g j other. same-bytes bytes stored g j other (node_of b g j) refl;
       lists = refl;
+      count = length-set b.contents node (written_over (slice_index_or b.contents node (replicate 512 0)) bytes);
     }
 
   -- where a free node takes the block
@@ -146,6 +149,7 @@ module _ (b : Buffers) (f : FileNode) (k : ℕ) where
       nodes = λ g j other. others-nodes-taken g j other;
       bytes = λ stored g j other. ap (bytes_of b stored) (others-nodes-taken g j other);
       lists = length-set (map (without node) b.lists) (f.0 + 1) (list_at (map (without node) b.lists) (f.0 + 1) ++ node ∷ []) ∙ length-map b.lists (without node);
+      count = refl;
     }
 
 -- the first free node holds no block
@@ -179,10 +183,11 @@ others-then f k a b c one two = record {
   nodes = λ g j other. two.nodes g j other ∙ one.nodes g j other;
   bytes = λ stored g j other. two.bytes stored g j other ∙ one.bytes stored g j other;
   lists = two.lists ∙ one.lists;
+  count = two.count ∙ one.count;
 }
 
 pub others-none : (f : FileNode) (k : ℕ) (a : Buffers) → OthersStay f k a a
-others-none f k a = record { nodes = λ g j other. refl; bytes = λ stored g j other. refl; lists = refl }
+others-none f k a = record { nodes = λ g j other. refl; bytes = λ stored g j other. refl; lists = refl; count = refl }
 
 -- ---- how many nodes are free
 
@@ -242,3 +247,80 @@ module _ (b t : Buffers) (are : AreBuffers b) (f : FileNode) (k node : ℕ) (byt
   pub taken-free : free_in b ≤ free_in t + 1
   taken-free =
       subst (λ (u : Buffers). free_in b ≤ free_in u + 1) (sym taken) (free-taken b are node within (f.0 + 1) (λ e. omega arith))
+
+  -- where the node is made free again, all is as before
+  abbrev again : Buffers
+  again = with_released (with_bytes t node bytes) node
+
+  blocks-again : again.blocks ≡ b.blocks
+  blocks-again =
+      ap (λ (u : Buffers). set u.blocks node None) taken
+      ∙ set-set b.blocks node (Some (record { file = f; index = k })) None
+      ∙ ap (set b.blocks node) (sym free-node) ∙ set-get_or b.blocks node None
+
+  not-node : (g : FileNode) (j m : ℕ) → node_of b g j ≡ Some m → m ≢ node
+  not-node g j m found same =
+      let there = (position-Some (holds_block g j) b.blocks m None found).1 in
+      let none : block_at b.blocks m ≡ None = ap (block_at b.blocks) same ∙ free-node in
+      false≢true (sym (ap (holds_block g j) none) ∙ there)
+
+  bytes-again : (stored : List ℕ) (g : FileNode) (j : ℕ) (o : Option ℕ) → node_of b g j ≡ o → bytes_of again stored o ≡ bytes_of b stored o
+  bytes-again stored g j None e = refl
+  bytes-again stored g j (Some m) e =
+      get_or-set_other t.contents node m (written_over (slice_index_or t.contents node (replicate 512 0)) bytes) (replicate 512 0) (not-node g j m e)
+      ∙ ap (λ (u : Buffers). slice_index_or u.contents m (replicate 512 0)) taken
+
+  lists-again : length again.lists ≡ length b.lists
+  lists-again =
+      length-set (map (without node) t.lists) 0 (list_at (map (without node) t.lists) 0 ++ node ∷ []) ∙ length-map t.lists (without node)
+      ∙ ap (λ (u : Buffers). length u.lists) taken
+      ∙ length-set (map (without node) b.lists) (f.0 + 1) (list_at (map (without node) b.lists) (f.0 + 1) ++ node ∷ []) ∙ length-map b.lists (without node)
+
+  free-again : free_in again ≡ free_in b
+  free-again =
+      let whole : AreBuffers t = subst AreBuffers (sym taken) (AreBuffers-taken b node f k are within file absent) in
+      let nodes : node_count t.lists ≡ node_count b.lists = ap (λ (u : Buffers). node_count u.lists) taken ∙ node_count-moved node (f.0 + 1) b.lists are.each_once within file in
+      sym (free_number (with_released t node) (AreBuffers-released t node whole (omega (arith, within, nodes)))) ∙ ap (count_by is_none) blocks-again ∙ free_number b are
+
+  count-again : length again.contents ≡ length b.contents
+  count-again =
+      length-set t.contents node (written_over (slice_index_or t.contents node (replicate 512 0)) bytes) ∙ ap (λ (u : Buffers). length u.contents) taken
+
+  pub given-back : AllStay b again
+  given-back = record {
+    nodes = λ g j. ap (position (holds_block g j)) blocks-again;
+    bytes = λ stored g j. ap (λ (blocks : List (Option Block)). bytes_of again stored (position (holds_block g j) blocks)) blocks-again ∙ bytes-again stored g j (node_of b g j) refl;
+    lists = lists-again;
+    count = count-again;
+    free = free-again;
+  }
+
+-- ---- blocks that nodes hold
+
+-- the other blocks, where all stay
+pub others-all : (f : FileNode) (k : ℕ) (b c : Buffers) → AllStay b c → OthersStay f k b c
+others-all f k b c stay = record { nodes = λ g j other. stay.nodes g j; bytes = λ stored g j other. stay.bytes stored g j; lists = stay.lists; count = stay.count }
+
+pub held-node : (o : Option ℕ) (node : ℕ) → o ≡ Some node → IsSome o
+held-node o node is = subst IsSome (sym is) refl
+
+-- one block more of a file
+pub held-next : (b c : Buffers) (f : FileNode) (from k : ℕ) → AreHeld b f from k → OthersStay f k b c → IsSome (node_of c f k) → AreHeld c f from (k + 1)
+held-next b c f from k held others here j low high =
+    elim (cases_eq j k) [
+      | inl same ↦ subst (λ (m : ℕ). IsSome (node_of c f m)) (sym same) here
+      | inr differs ↦ subst IsSome (sym (others.nodes f j (λ _ e. differs e))) (held j low (omega (arith, high, differs)))
+    ]
+
+-- no block loses its node
+pub more-next : (a b c : Buffers) (f : FileNode) (k : ℕ) → HoldsMore a b → OthersStay f k b c → IsSome (node_of c f k) → HoldsMore a c
+more-next a b c f k more others here g j some =
+    elim (cases_eq g.0 f.0) [
+      | inr differs ↦ subst IsSome (sym (others.nodes g j (λ e _. differs e))) (more g j some)
+      | inl file ↦ elim (cases_eq j k) [
+        | inr differs ↦ subst IsSome (sym (others.nodes g j (λ _ e. differs e))) (more g j some)
+        | inl index ↦
+            let same : f ≡ g = (λ i. record { 0 = sym file i }) in
+            subst (λ (h : FileNode). IsSome (node_of c h j)) same (subst (λ (m : ℕ). IsSome (node_of c f m)) (sym index) here)
+      ]
+    ]

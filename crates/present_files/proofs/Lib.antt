@@ -6,3 +6,5 @@ pub mod Joined
 pub mod ReadRuns
 pub mod Rooms
 pub mod Sizes
+pub mod Small
+pub mod Unchanged

@@ -17,10 +17,11 @@ pub record AreDropped (f : FileNode) (from to : ℕ) (numbers new_numbers : List
   pub numbers_stay : (g : FileNode) (j : ℕ) → IsBeside f from to g j → number_in new_numbers g.0 j ≡ number_in numbers g.0 j
   pub nodes_stay : (g : FileNode) (j : ℕ) → IsBeside f from to g j → node_of new g j ≡ node_of b g j
   pub bytes_stay : (stored : List ℕ) (g : FileNode) (j : ℕ) → IsBeside f from to g j → held_or new stored g j ≡ held_or b stored g j
-  -- there are as many rows and lists as before, and each row is as long
+  -- there are as many rows, lists and buffers as before, and each row is as long
   pub files : length new_numbers ≡ length numbers
   pub rows : (g : ℕ) → row_length new_numbers g ≡ row_length numbers g
   pub lists : length new.lists ≡ length b.lists
+  pub count : length new.contents ≡ length b.contents
 
 abbrev pub DropsBlocks : FileNode → ℕ → ℕ → Present → Present → Type 0
 DropsBlocks f from to old new = AreDropped f from to old.numbers.items new.numbers.items old.pool new.pool

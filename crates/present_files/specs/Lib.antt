@@ -1,3 +1,4 @@
 pub mod Dropped
+pub mod Kept
 pub mod Nodes
 pub mod Present

@@ -83,3 +83,7 @@ content_of blocks p f = take (size_of p f) (room_bytes blocks p f)
 -- how many buffers are free
 abbrev pub free_buffers : Present → ℕ
 free_buffers p = free_in p.pool
+
+-- how many buffers there are
+abbrev pub buffer_count : Present → ℕ
+buffer_count p = length p.pool.contents

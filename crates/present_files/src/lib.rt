@@ -7,9 +7,12 @@ mod present;
 mod reading;
 mod resizing;
 mod stored;
+#[cfg(test)]
+mod tests;
 mod writing;
 
 pub use blocks::buffer;
+pub use holding::stand;
 pub use present::{Present, PresentSize};
 pub use reading::read;
 pub use resizing::{release_file, resize};

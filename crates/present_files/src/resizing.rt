@@ -8,9 +8,10 @@ ghost use Rattle.rig_core.specs.Outside.{OnlyReads};
 ghost use Rattle.tree_changes.specs.InStep.{data_at};
 ghost use Rattle.tree_mount.specs.Numbers.{most_blocks};
 ghost use Rattle.present_files.specs.Dropped.{DropsBlocks};
-ghost use Rattle.present_files.specs.Present.{IsPresent, changes_of, content_of, free_buffers, number_of, room_bytes, size_of};
+ghost use Rattle.present_files.specs.Kept.{KeepsContents};
+ghost use Rattle.present_files.specs.Present.{IsPresent, changes_of, content_of, buffer_count, free_buffers, number_of, room_bytes, size_of};
 
-use crate::blocks::put_in_block;
+use crate::blocks::{buffer, put_in_block};
 use crate::holding::{let_go, stand};
 use crate::present::{Present, PresentSize};
 use crate::writing::set_size;
@@ -26,6 +27,7 @@ fn drop_block(present: &mut Present, row: &TreeRow, file: FileNode, k: u32)
     ensures sizes { present.new.sizes ≡ present.old.sizes }
     ensures present { IsPresent row.now present.new }
     ensures free { free_buffers present.old ≤ free_buffers present.new }
+    ensures buffers { buffer_count present.new ≡ buffer_count present.old }
 {
     let_go(&mut present.pool, file, k);
     present.numbers[file.0 as usize].put(k as usize, 0);
@@ -41,6 +43,7 @@ fn drop_blocks(present: &mut Present, row: &TreeRow, file: FileNode, from: u32, 
     ensures sizes { present.new.sizes ≡ present.old.sizes }
     ensures present { IsPresent row.now present.new }
     ensures free { free_buffers present.old ≤ free_buffers present.new }
+    ensures buffers { buffer_count present.new ≡ buffer_count present.old }
 {
     for k in from..to {
         drop_block(present, row, file, k);
@@ -57,13 +60,15 @@ fn shrink(present: &mut Present, row: &TreeRow, file: FileNode, size: u32)
     ensures sizes { present.new.sizes.items ≡ slice_set present.old.sizes.items file.0 (record { size = size; changes = changes_of present.old file + 1 }) }
     ensures present { IsPresent row.now present.new }
     ensures free { free_buffers present.old ≤ free_buffers present.new }
+    ensures buffers { buffer_count present.new ≡ buffer_count present.old }
 {
     let old = present.sizes[file.0 as usize].size;
     drop_blocks(present, row, file, size.div_ceil(512), old.div_ceil(512));
     set_size(present, row, file, size);
 }
 
-/// Makes the bytes behind a file's end zeros, up to the end of its last block.
+/// Makes the bytes behind a file's end zeros, up to the end of its last block. A fault comes only where the rig's read
+/// faults rose; no content changes then.
 fn clear_behind<R: Rig>(
     present: &mut Present,
     rig: &mut R,
@@ -78,11 +83,13 @@ fn clear_behind<R: Rig>(
     ensures room { R.tells_view → OnOk result (room_bytes (data_at row.now at (R.state rig.old).view) present.new file
         ≡ put (size_of present.old file) (replicate (512 * blocks_of (size_of present.old file) - size_of present.old file) 0) (room_bytes (data_at row.now at (R.state rig.old).view) present.old file)) }
     ensures others { (g : FileNode) → g.0 ≢ file.0 → R.tells_view
-        → room_bytes (data_at row.now at (R.state rig.old).view) present.new g ≡ room_bytes (data_at row.now at (R.state rig.old).view) present.old g }
+        → OnOk result (room_bytes (data_at row.now at (R.state rig.old).view) present.new g ≡ room_bytes (data_at row.now at (R.state rig.old).view) present.old g) }
+    ensures unchanged { OnErr result (KeepsContents R.tells_view (data_at row.now at (R.state rig.old).view) present.old present.new) }
     ensures present { IsPresent row.now present.new }
     ensures sizes { present.new.sizes ≡ present.old.sizes }
     ensures numbers { present.new.numbers ≡ present.old.numbers }
     ensures free { free_buffers present.old ≤ free_buffers present.new + 1 }
+    ensures buffers { buffer_count present.new ≡ buffer_count present.old }
     ensures reads { OnlyReads R.tells_view (R.state rig.old) (R.state rig.new) }
     ensures cause { OnErr result (Rose (R.state rig.old).read_faults (R.state rig.new).read_faults) }
 {
@@ -91,14 +98,16 @@ fn clear_behind<R: Rig>(
     if inside == 0 {
         return Ok(());
     }
+    buffer(present, rig, row, at, file, size / 512)?;
     let zeros = [0; 512];
     let behind = &zeros[..512 - inside as usize];
-    put_in_block(present, rig, row, at, file, size / 512, inside, behind)
+    put_in_block(present, row, file, size / 512, inside, behind);
+    Ok(())
 }
 
 /// Cuts a file to a size, or fills it up with zeros, as one change. The numbers of the blocks up to the new last one
 /// stay; no buffer holds a block behind it, and its number is 0. No other file changes. A fault comes only where the
-/// rig's read faults rose; the present contents are of no use then.
+/// file grows and the rig's read faults rose; no content, size or change count changes then.
 pub fn resize<R: Rig>(
     present: &mut Present,
     rig: &mut R,
@@ -120,10 +129,14 @@ pub fn resize<R: Rig>(
         → OnOk result (content_of (data_at row.now at (R.state rig.old).view) present.new g ≡ content_of (data_at row.now at (R.state rig.old).view) present.old g) }
     // The size and the change count of the file, and those of the others.
     ensures sizes { OnOk result (present.new.sizes.items ≡ slice_set present.old.sizes.items file.0 (record { size = size; changes = changes_of present.old file + 1 })) }
+    ensures unchanged { OnErr result (KeepsContents R.tells_view (data_at row.now at (R.state rig.old).view) present.old present.new) }
+    // Only a file that grows is read.
+    ensures grows { OnErr result (size_of present.old file < size) }
     ensures kept { (k : ℕ) → k < blocks_of size → number_of present.new file k ≡ number_of present.old file k }
     ensures other_numbers { (g : FileNode) (k : ℕ) → g.0 ≢ file.0 → number_of present.new g k ≡ number_of present.old g k }
     ensures present { IsPresent row.now present.new }
     ensures free { free_buffers present.old ≤ free_buffers present.new + 1 }
+    ensures buffers { buffer_count present.new ≡ buffer_count present.old }
     ensures reads { OnlyReads R.tells_view (R.state rig.old) (R.state rig.new) }
     ensures cause { OnErr result (Rose (R.state rig.old).read_faults (R.state rig.new).read_faults) }
 {
@@ -146,6 +159,7 @@ pub fn release_file(present: &mut Present, row: &TreeRow, file: FileNode)
     ensures sizes { present.new.sizes.items ≡ slice_set present.old.sizes.items file.0 (record { size = 0; changes = 0 }) }
     ensures present { IsPresent row.now present.new }
     ensures free { free_buffers present.old ≤ free_buffers present.new }
+    ensures buffers { buffer_count present.new ≡ buffer_count present.old }
 {
     let size = present.sizes[file.0 as usize].size;
     drop_blocks(present, row, file, 0, size.div_ceil(512));

@@ -23,7 +23,7 @@ fn block_start(row: &TreeRow, at: u64, number: u32) -> u64
 }
 
 /// Fills a buffer with the bytes of a data block from a place in it on, by the block's number. Those of number 0 are
-/// zeros. A fault comes only where the rig's read faults rose.
+/// zeros. A fault comes only where the number isn't 0 and the rig's read faults rose.
 pub(crate) fn read_stored<R: Rig>(
     rig: &mut R,
     row: &TreeRow,
@@ -38,6 +38,7 @@ pub(crate) fn read_stored<R: Rig>(
     ensures bytes { R.tells_view → OnOk result (into.new ≡ part from (length into.old) (data_block (data_at row.now at (R.state rig.old).view) number)) }
     ensures long { length into.new ≡ length into.old }
     ensures reads { OnlyReads R.tells_view (R.state rig.old) (R.state rig.new) }
+    ensures stored { OnErr result (1 ≤ number) }
     ensures cause { OnErr result (Rose (R.state rig.old).read_faults (R.state rig.new).read_faults) }
 {
     if number == 0 {

@@ -1,5 +1,5 @@
-use Rattle.std.proofs.Common.{◌≡◌, ℕ, subst, arith}
-use Rattle.std.proofs.lemmas.Result.{on_ok_weaker}
+use Rattle.std.proofs.Common.{◌≡◌, ◌≤◌, ℕ, subst, arith}
+use Rattle.std.proofs.lemmas.Result.{on_err_weaker, on_ok_weaker}
 use Rattle.apex_model.specs.Image.{data_block}
 use Rattle.tree_changes.specs.InStep.{data_at}
 use Rattle.present_files.specs.Nodes.{held_or}
@@ -20,3 +20,9 @@ returns-clause-same g c = λ tells.
 pub returns-clause-present : goal.returns-clause-present
 returns-clause-present g c =
     present-held c.args.row.now c.args.present.now.sizes.items c.args.present.now.numbers.items c.args.present.now.pool c.hold.new.pool c.args.file c.args.k c.requires.present c.hold.ensures.others c.requires.file c.requires.block
+
+pub returns-clause-stored : goal.returns-clause-stored
+returns-clause-stored g c =
+    let numbers = c.args.present.now.numbers.items in
+    let number : c.at-number.result ≡ number_in numbers c.args.file.0 c.args.k = numbered numbers c.args.file.0 c.args.k c.index.result.now c.at-number.result (omega (arith, c.requires.file, c.requires.present.numbers_length)) c.index.ensures c.at-number.ensures in
+    on_err_weaker c.hold.result (subst (λ (n : ℕ). 1 ≤ n) number) c.hold.ensures.stored

@@ -1,18 +1,26 @@
-use Rattle.std.proofs.Common.{◌≡◌, ℕ, ◌+◌, ◌-◌, ◌*◌, ◌/◌, ◌<◌, ◌≤◌, List, length, take, drop, subst, ap, ◌∙◌, refl, arith}
-use Rattle.apex_model.specs.Layout.{tree_blocks}
+use Rattle.std.proofs.Common.{◌≡◌, ℕ, ◌+◌, ◌-◌, ◌*◌, ◌/◌, ◌<◌, ◌≤◌, List, length, take, drop, sym, subst, ap, ◌∙◌, refl, arith}
+use Rattle.std.specs.Prelude.{IsSome, Option, position}
+use Rattle.std.proofs.lemmas.List.{take_all}
+use Rattle.block_pool.specs.declared.buffers.Block.{Block}
+use Rattle.block_pool.specs.Buffers.{holds_block}
 use Rattle.rig_core.specs.Bytes.{put}
 use Rattle.tree_changes.specs.InStep.{data_at}
 use Rattle.present_files.specs.Present.{room_bytes, row_length}
 use Rattle.present_files.proofs.Contents.{piece-put}
-use Rattle.present_files.proofs.ReadRuns.{reads_then}
 use Rattle.present_files.proofs.Rooms.{room-long}
 use Rattle.present_files.proofs.writing.put_blocks.Goals as goal
 
+pub put_in_block-requires-clause-held : goal.put_in_block-requires-clause-held
+put_in_block-requires-clause-held c =
+    let k = c.loop-k.k in
+    let less : k < c.div_ceil-k-end.result = search arith in
+    let first : c.args.from / 512 ≤ k = search arith in
+    subst (λ (blocks : List (Option Block)). IsSome (position (holds_block c.args.file k) blocks)) (sym c.loop-k.invariant.nodes)
+    (c.requires.held k first (omega (arith, less, c.div_ceil-k-end.ensures)))
+
 pub loop-k-preserved : goal.loop-k-preserved
-loop-k-preserved g c =
+loop-k-preserved c =
     let row = c.args.row.now in
-    let at = c.args.at in
-    let view = (g.R.Rig.state c.args.rig.now).view in
     let p = c.args.present.now in
     let are = c.requires.present in
     let k = c.loop-k.k in
@@ -25,23 +33,26 @@ loop-k-preserved g c =
     let first : from / 512 ≤ k = search arith in
     let end : 512 * k < from + length bytes = omega (arith, less, c.div_ceil-k-end.ensures) in
     record {
-      reads = reads_then g.R.Rig.tells_view (g.R.Rig.state c.args.rig.now) (g.R.Rig.state c.loop-k.rig) (g.R.Rig.state c.put_in_block.new.rig) before.reads c.put_in_block.ensures.reads;
-      room = λ tells.
+      room = λ at image fits.
           let piece = take (stop - from - (start - from)) (drop (start - from) bytes) in
-          let room0 = room_bytes (data_at row at view) p c.args.file in
-          let fits : at + 512 * tree_blocks row ≤ length view = omega (arith, c.requires.fits, (g.met.R.Rig.sound c.args.rig.now).view_fills tells) in
-          let all : length room0 ≡ 512 * row_length p.numbers.items c.args.file.0 = room-long row at view fits p.numbers.items are.within p.pool c.stand.ensures c.args.file in
+          let room0 = room_bytes (data_at row at image) p c.args.file in
+          let all : length room0 ≡ 512 * row_length p.numbers.items c.args.file.0 = room-long row at image fits p.numbers.items are.within p.pool c.stand.ensures c.args.file in
           let enough : from + length bytes ≤ length room0 = omega (arith, all, c.requires.within, are.fits c.args.file.0 c.requires.file, are.rooms c.args.file.0 c.requires.file) in
-          subst (λ (v : List ℕ). room_bytes (data_at row at v) c.put_in_block.new.present c.args.file ≡ put (512 * k + (start - 512 * k)) piece (room_bytes (data_at row at v) c.loop-k.present c.args.file)) (before.reads.view tells)
-          (c.in_ok-put_in_block.ensures.room tells)
-          ∙ ap (λ (xs : List ℕ). put (512 * k + (start - 512 * k)) piece xs) (before.room tells)
+          c.put_in_block.ensures.room at image fits
+          ∙ ap (λ (xs : List ℕ). put (512 * k + (start - 512 * k)) piece xs) (before.room at image fits)
           ∙ piece-put room0 bytes piece from k start stop c.max-start.ensures c.min-stop.ensures end (omega (arith, first)) enough refl;
-      others = λ h differs tells.
-          subst (λ (v : List ℕ). room_bytes (data_at row at v) c.put_in_block.new.present h ≡ room_bytes (data_at row at v) c.loop-k.present h) (before.reads.view tells)
-          (c.put_in_block.ensures.others h differs tells)
-          ∙ before.others h differs tells;
+      others = λ blocks h differs. c.put_in_block.ensures.others blocks h differs ∙ before.others blocks h differs;
+      nodes = c.put_in_block.ensures.nodes ∙ before.nodes;
+      lists = c.put_in_block.ensures.lists ∙ before.lists;
+      buffers = c.put_in_block.ensures.buffers ∙ before.buffers;
       present = c.put_in_block.ensures.present;
       sizes = c.put_in_block.ensures.sizes ∙ before.sizes;
       numbers = c.put_in_block.ensures.numbers ∙ before.numbers;
-      free = omega (arith, before.free, c.put_in_block.ensures.free, first);
     }
+
+pub returns-clause-room : goal.returns-clause-room
+returns-clause-room c = λ at image fits.
+    let over : c.div_ceil-k-end.result ≤ c.loop-k.k = search arith in
+    c.loop-k.invariant.room at image fits
+    ∙ ap (λ (xs : List ℕ). put c.args.from xs (room_bytes (data_at c.args.row.now at image) c.args.present.now c.args.file))
+    (take_all (512 * c.loop-k.k - c.args.from) c.args.bytes.now (omega (arith, over, c.div_ceil-k-end.ensures)))
