@@ -1,5 +1,5 @@
 -- A region stays in step with what is kept of it while its used blocks are marked in another way.
-use Rattle.std.proofs.Common.{◌≡◌, ℕ, List, length, subst, sym, ◌∙◌, arith}
+use Rattle.std.proofs.Common.{◌≡◌, ℕ, List, subst, sym, ◌∙◌, arith}
 use Rattle.apex_types.specs.declared.rows.TreeRow.{TreeRow}
 use Rattle.free_blocks.specs.Rows.{AreNamedUsed}
 use Rattle.rig_core.specs.Outside.{Outside}

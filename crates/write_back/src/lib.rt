@@ -4,3 +4,6 @@
 mod placing;
 
 pub use placing::write_present;
+
+#[cfg(test)]
+mod tests;
