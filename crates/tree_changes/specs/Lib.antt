@@ -1,4 +1,3 @@
-pub mod Apart
 pub mod Contents
 pub mod InStep
 pub mod Ready

@@ -1,0 +1,4 @@
+pub mod Charged
+pub mod Copied
+pub mod Mounted
+pub mod Stored

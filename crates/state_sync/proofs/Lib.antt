@@ -1,0 +1,4 @@
+pub mod NewState
+pub mod Stored
+pub mod StoredTree
+pub mod Synchronised

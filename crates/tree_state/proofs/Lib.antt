@@ -1,0 +1,4 @@
+pub mod AfterReads
+pub mod Fresh
+pub mod GoodNumbers
+pub mod Rows
