@@ -1,16 +1,24 @@
 #!/bin/sh
-# Builds apexhost and runs its main job on four examples: a module's table and a script of service calls. Then it formats
-# an image. It shows each script, what the program told and its exit status, in fresh temporary folders.
-# The checkout stays as it was, but for the folders out/ that the build makes.
+# Shows apexhost at its main job: a module's table and a script of service calls go in, and one line comes out for each call.
 #
-# The kit's rt must be on the PATH. The first build proves every crate that the program stands on, which takes some
-# minutes; later ones take seconds.
+#   sh demo.sh           runs the program without its proof, in about a minute
+#   sh demo.sh proved    builds the proved program and runs it on all examples, then formats an image; the first build
+#                        proves every crate that the program stands on, which takes about half an hour
+#
+# The kit's rt must be on the PATH. The checkout stays as it was, but for the folders out/ that a build makes.
 set -u
 
 top=$(cd "$(dirname "$0")" && pwd) || exit 1
 crate=$top/crates/apexhost
 program=$crate/out/apexhost
 
+case ${1:-try} in
+    try | proved) ;;
+    *)
+        echo "usage: sh demo.sh [proved]" >&2
+        exit 2
+        ;;
+esac
 if ! command -v rt >/dev/null 2>&1; then
     echo "demo: rt is not on the PATH: add the folder bin of the Rattle kit to it" >&2
     exit 1
@@ -22,38 +30,70 @@ mkdir "$room" || exit 1
 trap 'rm -rf "$room"' EXIT
 trap 'exit 1' HUP INT TERM
 
+# Shows a script with the numbers of its lines. $1 the table, $2 the script
+show_script() {
+    echo
+    echo "== the script examples/$2, over the table examples/$1, with the numbers of its lines"
+    awk '{ printf "%5d  %s\n", NR, $0 }' "$top/examples/$2"
+    echo
+}
+
+# Compares what was told with an example's lines. $1 the exit status, $2 the lines that are to be told
+compare() {
+    if [ "$1" -ne 0 ] || ! cmp -s "$room/told" "$top/examples/$2"; then
+        echo "demo: the lines of examples/$2 and the status 0 were wanted" >&2
+        exit 1
+    fi
+}
+
+# Runs one example by rt try: no proof is made or read.
+try_run() {
+    echo "Running apexhost without its proof. The command that proves it: rt ci (or sh demo.sh proved)."
+    show_script module.toml first_run.script
+    echo "== told by: apexhost run"
+    (cd "$crate" && rt try --data module.toml="$top/examples/module.toml" -- run) <"$top/examples/first_run.script" >"$room/log" 2>&1
+    grep -E '^[0-9]+ ' "$room/log" >"$room/told"
+    cat "$room/told"
+    grep -q '^run=ended status=0' "$room/log"
+    compare $? first_run.told
+    echo
+    echo "These are the lines of examples/first_run.told, worked out apart from the program."
+}
+
+# Builds the proved program, with a line for each crate and the minutes so far.
 # rt run builds the program and then runs it in its crate's folder. With words that are no command it only tells how it
 # is used, so nothing else happens there; what it leaves is removed where it was not there before.
-echo "Building apexhost with $(rt version) ..."
-had_disk=no
-if [ -e "$crate/disk.img" ]; then had_disk=yes; fi
-(cd "$crate" && rt run -- only the build) </dev/null >"$room/build.log" 2>&1
-if [ "$had_disk" = no ]; then rm -f "$crate/disk.img"; fi
-if ! grep -q '^rt: running out/apexhost' "$room/build.log" || ! [ -x "$program" ]; then
-    cat "$room/build.log" >&2
-    echo "demo: the program was not built" >&2
-    exit 1
-fi
+build() {
+    echo "Building apexhost with $(rt version); the first build proves what it stands on:"
+    begin=$(date +%s)
+    had_disk=no
+    if [ -e "$crate/disk.img" ]; then had_disk=yes; fi
+    (cd "$crate" && rt run -- only the build) </dev/null 2>&1 | tee "$room/build.log" | while read -r word name _; do
+        if [ "$word" = crate ]; then
+            echo "  $((($(date +%s) - begin) / 60)) min  ${name%:}"
+        fi
+    done
+    if [ "$had_disk" = no ]; then rm -f "$crate/disk.img"; fi
+    if ! grep -q '^rt: running out/apexhost' "$room/build.log" || ! [ -x "$program" ]; then
+        cat "$room/build.log" >&2
+        echo "demo: the program was not built" >&2
+        exit 1
+    fi
+}
 
 # Shows the script of an example, runs it over the example's table, and compares what was told.
 # $1 the table, $2 the script, $3 the lines that are to be told
 show_run() {
     mkdir "$room/run" && cp "$top/examples/$1" "$room/run/module.toml" || exit 1
-    echo
-    echo "== the script examples/$2, over the table examples/$1, with the numbers of its lines"
-    awk '{ printf "%5d  %s\n", NR, $0 }' "$top/examples/$2"
+    show_script "$1" "$2"
     (cd "$room/run" && "$program" run) <"$top/examples/$2" >"$room/told"
     status=$?
-    echo
     echo "== told by: apexhost run"
     cat "$room/told"
     echo
     echo "== exit status: $status"
     rm -rf "$room/run"
-    if [ "$status" -ne 0 ] || ! cmp -s "$room/told" "$top/examples/$3"; then
-        echo "demo: the lines of examples/$3 and the status 0 were wanted" >&2
-        exit 1
-    fi
+    compare "$status" "$3"
 }
 
 # Formats an image for an example's table, and compares what was told and the size of the file.
@@ -76,9 +116,15 @@ show_format() {
     fi
 }
 
+if [ "${1:-try}" = try ]; then
+    try_run
+    exit 0
+fi
+build
 show_run small.toml one_file.script one_file.told
 show_run module.toml first_run.script first_run.told
 show_run module.toml file_services.script file_services.told
 show_run module.toml directories.script directories.told
+echo
 echo "These are the lines of the files examples/*.told, worked out apart from the program."
 show_format small.toml 197
