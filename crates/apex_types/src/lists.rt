@@ -7,7 +7,7 @@ use std::alloc::Global;
 use std::marker::Model;
 
 /// A list of numbers that grows.
-#[derive(Debug, Drop)]
+#[derive(Drop)]
 pub struct NumberList {
     content: Vec<u64>,
 }
@@ -34,7 +34,8 @@ impl NumberList {
         ensures ok { OnOk result (self.new ≡ self.old ++ number ∷ []) }
         ensures err { OnErr result (self.new ≡ self.old) }
     {
-        self.content.push(number).map_err(|_| OutOfMemory)
+        self.content.push(number)?;
+        Ok(())
     }
 
     /// Whether the list holds this number.
@@ -46,7 +47,7 @@ impl NumberList {
 }
 
 /// Which calls fail: pairs of a kind and a number, counted from 1 within the kind.
-#[derive(Debug, Drop)]
+#[derive(Drop)]
 pub struct FailList {
     content: Vec<(CallKind, u64)>,
 }
@@ -74,7 +75,8 @@ impl FailList {
         ensures ok { OnOk result (self.new ≡ self.old ++ (kind, number) ∷ []) }
         ensures err { OnErr result (self.new ≡ self.old) }
     {
-        self.content.push((kind, number)).map_err(|_| OutOfMemory)
+        self.content.push((kind, number))?;
+        Ok(())
     }
 
     /// Whether the list holds this pair.
@@ -92,7 +94,7 @@ impl FailList {
 }
 
 /// The words of a command line.
-#[derive(Debug, Drop)]
+#[derive(Drop)]
 pub struct Words {
     content: Vec<Token>,
 }
@@ -120,7 +122,8 @@ impl Words {
         ensures err { OnErr result (self.new ≡ self.old) }
     {
         let token = Token::read(*self.content.allocator(), word)?;
-        self.content.push(token).map_err(|_| OutOfMemory)
+        self.content.push(token)?;
+        Ok(())
     }
 
     pub fn len(&self) -> usize

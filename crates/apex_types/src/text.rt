@@ -6,7 +6,7 @@ use std::alloc::Global;
 use std::marker::Model;
 
 /// A word of a script: any bytes.
-#[derive(Debug, Drop)]
+#[derive(Drop)]
 pub struct Token {
     content: Vec<u8>,
 }
@@ -24,10 +24,8 @@ impl Token {
     pub fn read(alloc: Global, bytes: &[u8]) -> Result<Token, OutOfMemory>
         ensures { IfOk result (λ token. token ≡ bytes.now) }
     {
-        match Vec::from_slice(alloc, bytes) {
-            Ok(content) => Ok(Token { content }),
-            Err(_) => Err(OutOfMemory),
-        }
+        let content = Vec::from_slice(alloc, bytes)?;
+        Ok(Token { content })
     }
 
     pub fn bytes(&self) -> &[u8]
@@ -38,7 +36,7 @@ impl Token {
 }
 
 /// A list of bytes that grows.
-#[derive(Debug, Drop)]
+#[derive(Drop)]
 pub struct ByteList {
     content: Vec<u8>,
 }
@@ -65,10 +63,8 @@ impl ByteList {
         ensures ok { OnOk result (self.new ≡ self.old ++ byte ∷ []) }
         ensures err { OnErr result (self.new ≡ self.old) }
     {
-        match self.content.push(byte) {
-            Ok(()) => Ok(()),
-            Err(_) => Err(OutOfMemory),
-        }
+        self.content.push(byte)?;
+        Ok(())
     }
 
     /// Adds bytes at the end. Without memory the list is as it was.
@@ -76,20 +72,16 @@ impl ByteList {
         ensures ok { OnOk result (self.new ≡ self.old ++ bytes.now) }
         ensures err { OnErr result (self.new ≡ self.old) }
     {
-        match self.content.extend_from_slice(bytes) {
-            Ok(()) => Ok(()),
-            Err(_) => Err(OutOfMemory),
-        }
+        self.content.extend_from_slice(bytes)?;
+        Ok(())
     }
 
     /// An equal list.
     pub fn copy(&self) -> Result<ByteList, OutOfMemory>
         ensures { IfOk result (λ list. list ≡ self.now) }
     {
-        match Vec::from_slice(*self.content.allocator(), self.content.as_slice()) {
-            Ok(content) => Ok(ByteList { content }),
-            Err(_) => Err(OutOfMemory),
-        }
+        let content = Vec::from_slice(*self.content.allocator(), self.content.as_slice())?;
+        Ok(ByteList { content })
     }
 
     pub fn bytes(&self) -> &[u8]
@@ -114,7 +106,7 @@ impl ByteList {
 }
 
 /// The data of a reply: at most 4,096 bytes.
-#[derive(Debug, Drop)]
+#[derive(Drop)]
 pub struct Bytes {
     content: ArrayVec<u8, 4096>,
 }
