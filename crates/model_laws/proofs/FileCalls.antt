@@ -1,5 +1,5 @@
 -- A file call keeps trees and handles valid.
-use Rattle.std.proofs.Common.{◌≡◌, ◌≢◌, ℕ, zero, suc, ◌+◌, ◌-◌, ◌≤◌, ◌<◌, inl, inr, Bool, true, false, not, List, [], ◌∷◌, map, refl, sym, ap, subst, ◌∙◌, Option, Some, None, length, take, min, replicate, arith, length-take, length-append}
+use Rattle.std.proofs.Common.{◌≡◌, ◌≢◌, ℕ, ◌-◌, ◌≤◌, ◌<◌, inl, inr, Bool, true, false, not, List, [], ◌∷◌, map, refl, sym, ap, subst, ◌∙◌, Option, Some, None, length, take, min, replicate, arith, length-take, length-append}
 use Rattle.std.specs.Prelude.{◌==◌, ◌&&◌, nat_le, nat_lt, slice_set, is_some, Result, Ok, Err}
 use Rattle.std.specs.Option.{option_map_or}
 use Rattle.std.specs.Ordering.{eq_by_cmp}
@@ -13,19 +13,18 @@ use Rattle.apex_types.specs.declared.calls.OpenMode.TheVariants.{ReadOnly, ReadW
 use Rattle.apex_types.specs.declared.codes.Errno.{Errno}
 use Rattle.apex_types.specs.declared.codes.Errno.TheVariants.{Eperm, Ebadf, Estale, Einval, Eacces, Efbig, Enospc, Eoverflow, Ebusy, Eexist, Emfile}
 use Rattle.apex_model.specs.Accepted.{IsAccepted}
-use Rattle.apex_model.specs.Files.{File, Content, past, size, change_count, new_file, changed, resized}
+use Rattle.apex_model.specs.Files.{File, Content, size, change_count, new_file, changed, resized}
 use Rattle.apex_model.specs.FileStep.{FileOutcome, opened, open_new_at, open_new_file, right_for, open_at, open_file, with_position, resize_file, remove_file_at, remove_file, rename_at, rename_file, get_file_status, is_empty, get_volume_status, file_service, file_step}
 use Rattle.apex_model.specs.FileSystem.{FileSystem, tree_at, tree_in, handles_in, with_tree, quota_of, file_limit, file_of, at_place, on_path}
 use Rattle.apex_model.specs.Handles.{OpenedFile, handle_at, with_slot, least_free, may_write, any_open, is_file_handle_to, is_writer_of, with_files_moved}
-use Rattle.apex_model.specs.Lines.{FileCallHasBytes}
 use Rattle.apex_model.specs.Outcomes.{state_after}
 use Rattle.apex_model.specs.Tables.{Place, Right, owner_alone, owner_or_reader, place_of}
 use Rattle.apex_model.specs.Trees.{Name, Node, directory, file, Tree, path_cmp, standing_at, with_node, without_node, walk, file_count, tree_charge}
-use Rattle.apex_model.specs.Validity.{AreBytes, Has, IsContent, IsValidFile, IsPath, parent_of, IsValidTree, IsValidFileHandle, IsValidFileSystem}
-use Rattle.apex_model.proofs.Keeps.{keeps-if, keeps-given, keeps-for, zip-get, le-false, lt-false, eq-false, all-append, all-take}
+use Rattle.apex_model.specs.Validity.{Has, IsContent, IsPath, parent_of, IsValidTree, IsValidFileHandle, IsValidFileSystem}
+use Rattle.apex_model.proofs.Keeps.{keeps-if, keeps-given, keeps-for, zip-get, le-false, lt-false}
 use Rattle.apex_model.proofs.Trees.{valid-with_file, directory-kept, same_path}
-use Rattle.apex_model.proofs.ValidChanges.{sync-valid, write-valid}
-use Rattle.apex_model.proofs.ValidFiles.{close-valid, read-valid, seek-valid, with_position-valid, file-in, last-all, same_file}
+use Rattle.apex_model.proofs.ValidChanges.{changed-valid, sync-valid, write-valid}
+use Rattle.apex_model.proofs.ValidFiles.{close-valid, read-valid, seek-valid, with_position-valid, file-in, same_file}
 use Rattle.model_laws.proofs.FileSystems.{row_of, one_owner, owner-reads, within-zip, leads, leads-not, with_tree-valid, with_more-valid, files_moved-valid}
 use Rattle.model_laws.proofs.Handles.{handle-with, id_some, free_some, open-none, no_file, with_file_handle-valid}
 use Rattle.model_laws.proofs.Places.{AreNames, IsPlace, place-known, walked}
@@ -128,7 +127,7 @@ module _ (table : Rows) (fs : FileSystem) (p : ℕ) (v : IsValidFileSystem table
       let directories = is.directories in
       let charge = is.charge in
       let good : IsValidTree row.0 put = with_new-valid row.0 tree name names (file new_file) is free (path-of name names are) parent
-      (record { contents = (record { fits = omega arith; bytes = tt }, tt); changes = omega arith }) (omega (arith, room, limit)) (omega (arith, directories)) (omega (arith, charge)) in
+      (record { contents = (record { fits = omega arith }, tt); changes = omega arith }) (omega (arith, room, limit)) (omega (arith, directories)) (omega (arith, charge)) in
       let between = with_more-valid table fs v t row.0 row.1 put good (λ other node h. kept-with tree (name ∷ names) (file new_file) other node free h) in
       let there : standing_at (tree_at (slice_set fs.trees t put) t) (name ∷ names) ≡ Some (file new_file)
       = ap (λ (x : Tree File). standing_at x (name ∷ names)) (get_or-set_same fs.trees t put [] (within-zip table.trees fs.trees t row.0 v.trees row.1)) ∙ put-there tree name names (file new_file) in
@@ -247,14 +246,6 @@ module _ (table : Rows) (fs : FileSystem) (p : ℕ) (v : IsValidFileSystem table
 
   -- ---- RESIZE_FILE
 
-  changed-valid : (f : File) (content : Content) → IsValidFile f → IsContent content → (change_count f == 4294967295) ≡ false → IsValidFile (changed f content)
-  changed-valid f content is good fresh = record {
-    contents = all-append IsContent (past f) (content ∷ []) is.contents (good, tt);
-    changes = let many : length (past f) ≡ length f.earlier + 1 = length-append f.earlier (f.content ∷ []) in
-        let left : f.first + length f.earlier ≢ 4294967295 = eq-false _ _ fresh in
-        let most = is.changes in omega (arith, many, left, most);
-  }
-
   -- a change of a file through the one handle that may write to it, which is then within the new content and not behind where it was
   cut_to-valid : (id : ℕ) (h : OpenedFile) (names : List Name) (f : File) (content : Content) (position : ℕ) → handle_at (handles_in fs p).files id ≡ Some h → h.mode ≡ ReadWrite → h.path ≡ Some names
       → standing_at (tree_in fs h.tree) names ≡ Some (file f) → IsContent content → position ≤ h.position → position ≤ length content
@@ -308,10 +299,6 @@ module _ (table : Rows) (fs : FileSystem) (p : ℕ) (v : IsValidFileSystem table
       let c = length-replicate {A = ℕ} (n - length content) 0 in
       omega (arith, a, b, c)
 
-  zeros : (n : ℕ) → AreBytes (replicate n 0)
-  zeros zero = tt
-  zeros (suc n) = (omega arith, zeros n)
-
   pub resize_file-valid : (id n : ℕ) → IsValidFileSystem table (state_after fs (resize_file table fs p id n))
   unfolding resize_file
   resize_file-valid id n =
@@ -323,11 +310,9 @@ module _ (table : Rows) (fs : FileSystem) (p : ℕ) (v : IsValidFileSystem table
       keeps-if (IsValidFileSystem table) fs (nat_lt (quota_of table h.tree) (tree_charge (with_node (tree_in fs h.tree) names (file (changed f (resized f.content n)))))) Enospc _ v (λ full.
       keeps-if (IsValidFileSystem table) fs (change_count f == 4294967295) Eoverflow _ v (λ worn.
       let stands = same_file (standing_at (tree_in fs h.tree) names) f found in
-      let last = last-all IsContent f.earlier f.content (file-in table.trees fs.trees h.tree names f v.trees stands).contents in
       let long = length-resized f.content n in
       cut_to-valid id h names f (resized f.content n) (min h.position n) at (writes h.mode mode) path stands
-      (record { fits = lt-false _ _ big; bytes = all-append (λ b. b < 256) (take n f.content) (replicate (n - length f.content) 0) (all-take (λ b. b < 256) n f.content last.bytes) (zeros (n - length f.content)) })
-      (omega arith) (omega (arith, long)) (lt-false _ _ full) worn)))))))
+      (record { fits = lt-false _ _ big }) (omega arith) (omega (arith, long)) (lt-false _ _ full) worn)))))))
 
   -- GET_FILE_STATUS and GET_VOLUME_STATUS
   pub file_status-valid : (id : ℕ) → IsValidFileSystem table (state_after fs (get_file_status fs p id))
@@ -343,21 +328,21 @@ module _ (table : Rows) (fs : FileSystem) (p : ℕ) (v : IsValidFileSystem table
       keeps-place table fs p v (place_of table owner_or_reader p path) _ (λ place _.
       keeps-if (IsValidFileSystem table) fs (not (is_empty place.names)) Einval _ v (λ _. v))
 
-  pub file_service-valid : (c : FileCall) → FileCallHasBytes c → IsValidFileSystem table (state_after fs (file_service table fs p c))
-  file_service-valid (OpenNewFile path) bytes = open_new_file-valid path
-  file_service-valid (OpenFile path mode) bytes = open_file-valid path mode
-  file_service-valid (CloseFile id) bytes = close-valid table fs p id v
-  file_service-valid (ReadFile id limit) bytes = read-valid table fs p id limit v
-  file_service-valid (WriteFile id written) bytes = write-valid table fs p id v written bytes
-  file_service-valid (SeekFile id offset whence) bytes = seek-valid table fs p id offset whence v
-  file_service-valid (ResizeFile id n) bytes = resize_file-valid id n
-  file_service-valid (SyncFile id) bytes = sync-valid table fs p id v
-  file_service-valid (RemoveFile path) bytes = remove_file-valid path
-  file_service-valid (RenameFile from to) bytes = rename_file-valid from to
-  file_service-valid (GetFileStatus id) bytes = file_status-valid id
-  file_service-valid (GetVolumeStatus path) bytes = volume_status-valid path
+  pub file_service-valid : (c : FileCall) → IsValidFileSystem table (state_after fs (file_service table fs p c))
+  file_service-valid (OpenNewFile path) = open_new_file-valid path
+  file_service-valid (OpenFile path mode) = open_file-valid path mode
+  file_service-valid (CloseFile id) = close-valid table fs p id v
+  file_service-valid (ReadFile id limit) = read-valid table fs p id limit v
+  file_service-valid (WriteFile id written) = write-valid table fs p id v written
+  file_service-valid (SeekFile id offset whence) = seek-valid table fs p id offset whence v
+  file_service-valid (ResizeFile id n) = resize_file-valid id n
+  file_service-valid (SyncFile id) = sync-valid table fs p id v
+  file_service-valid (RemoveFile path) = remove_file-valid path
+  file_service-valid (RenameFile from to) = rename_file-valid from to
+  file_service-valid (GetFileStatus id) = file_status-valid id
+  file_service-valid (GetVolumeStatus path) = volume_status-valid path
 
 -- a file call keeps trees and handles valid
-pub file_call-valid : (table : Rows) (fs : FileSystem) (p : ℕ) (ready : Bool) (c : FileCall) → IsAccepted table → IsValidFileSystem table fs → FileCallHasBytes c
+pub file_call-valid : (table : Rows) (fs : FileSystem) (p : ℕ) (ready : Bool) (c : FileCall) → IsAccepted table → IsValidFileSystem table fs
     → IsValidFileSystem table (state_after fs (file_step table fs p ready c))
-file_call-valid table fs p ready c accepted_table v bytes = keeps-if (IsValidFileSystem table) fs (not ready) Eperm _ v (λ _. file_service-valid table fs p v c bytes)
+file_call-valid table fs p ready c accepted_table v = keeps-if (IsValidFileSystem table) fs (not ready) Eperm _ v (λ _. file_service-valid table fs p v c)

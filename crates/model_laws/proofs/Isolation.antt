@@ -1,5 +1,5 @@
 -- A partition's replies are those that it gets with the lines and the stored state of its upstream alone.
-use Rattle.std.proofs.Common.{◌≡◌, ◌≢◌, ℕ, zero, suc, ◌≤◌, ◌<◌, inl, inr, Bool, true, false, cond, List, [], ◌∷◌, ◌++◌, map, refl, sym, ap, subst, ◌∙◌, Option, Some, None, length, arith}
+use Rattle.std.proofs.Common.{◌≡◌, ◌≢◌, ℕ, zero, suc, ◌≤◌, ◌<◌, Bool, true, false, cond, List, [], ◌∷◌, ◌++◌, map, refl, sym, ap, subst, ◌∙◌, Option, Some, None, length, arith}
 use Rattle.std.specs.Prelude.{◌||◌, ◌&&◌, ◌==◌, nat_lt, filter, slice_get, slice_index_or, zip}
 use Rattle.std.specs.List.{AllZip, AllByRecursion, list_any}
 use Rattle.std.proofs.lemmas.Bool.Decides.{nat_tests}
@@ -23,26 +23,17 @@ use Rattle.apex_model.specs.Validity.{IsValidTree, IsValidLogbook, IsValid}
 use Rattle.apex_model.specs.World.{World}
 use Rattle.apex_model.proofs.Alike.{IsClosed}
 use Rattle.apex_model.proofs.Cuts.{length-map}
-use Rattle.apex_model.proofs.FailedReads.{line_stays_or_steps}
 use Rattle.apex_model.proofs.Keeps.{lt-true, lt-false}
 use Rattle.apex_model.proofs.Upstream.{marks_are_upstream}
 use Rattle.model_laws.proofs.AlikePorts.{IsFed}
 use Rattle.model_laws.proofs.AlikeWords.{equal-numbers}
 use Rattle.model_laws.proofs.AlikeWorlds.{WorldsAlike, tick-line, member-reply, member-world, other-world}
-use Rattle.model_laws.proofs.Steps.{deed-valid}
+use Rattle.model_laws.proofs.Steps.{line-valid}
 
 -- ---- a run of worlds that are alike
 
 module _ (table : Rows) (marks : List Bool) (closed : IsClosed table (is_marked marks)) (fed : IsFed table (is_marked marks)) (p : ℕ) (apart : (q : ℕ) → is_marked marks q ≡ false → q ≢ p)
     (good : IsAccepted table) (books : LogbookStepKeepsValid) (ticks : TickKeepsValid) (failed : List ℕ) where
-  line-valid : (w : World) (line : Line) → IsValid table w → IsLineOf table line → IsValid table (world_after_line table failed w line)
-  line-valid w line v is =
-      let P : World → Type 0 = λ u. IsValid table u in
-      elim (line_stays_or_steps table failed w line) [
-        | inl e ↦ subst P (sym e) v
-        | inr e ↦ subst P (sym e) (deed-valid books ticks table w line.deed good v is.deed)
-      ]
-
   -- the right side, by whether the line is of the upstream
   own-line : (b : World) (line : Line) (own : List Line) (t : Bool) → replies_to table failed b (cond t (line ∷ own) own)
       ≡ cond t (told_for table failed b line.number line.deed ++ replies_to table failed (world_after_deed table failed b line.number line.deed) own) (replies_to table failed b own)
@@ -73,13 +64,13 @@ module _ (table : Rows) (marks : List Bool) (closed : IsClosed table (is_marked 
             ∙ rest b (other-world table (is_marked marks) closed fed a b v same failed number q.0 c out)
       ]) refl
 
-  run : (lines : List Line) (a b : World) → IsValid table a → WorldsAlike table (is_marked marks) a b → AllByRecursion (IsLineOf table) lines
+  run : (lines : List Line) (a b : World) → IsValid table a → WorldsAlike table (is_marked marks) a b
       → replies_of p (replies_to table failed a lines) ≡ replies_of p (replies_to table failed b (filter (λ line. concerns marks line.deed) lines))
-  run [] a b v same all = refl
-  run (line ∷ lines) a b v same all =
+  run [] a b v same = refl
+  run (line ∷ lines) a b v same =
       let own : List Line = filter (λ line. concerns marks line.deed) lines in
       one-line a b v same line.number line.deed lines own
-      (λ c alike. run lines (world_after_line table failed a line) c (line-valid a line v all.0) alike all.1)
+      (λ c alike. run lines (world_after_line table failed a line) c (line-valid books ticks table failed a line good v) alike)
       ∙ ap (replies_of p) (sym (own-line b line own (concerns marks line.deed)))
 
 -- ---- the worlds that are started
@@ -218,13 +209,13 @@ all-filtered P test (x ∷ xs) h = elim (test x) as (λ b. AllByRecursion P (con
 -- ---- the whole
 
 pub replies-depend : LogbookStepKeepsValid → TickKeepsValid → RepliesDependOnUpstream
-replies-depend books ticks table failed durable lines p good v few all =
+replies-depend books ticks table failed durable lines p good v all =
     (elim (nat_lt p (length table.partitions)) as (λ t. nat_lt p (length table.partitions) ≡ t
     → replies_of p (replies_to table failed (start table durable) lines) ≡ replies_of p (replies_to table failed (start table (restricted table p durable)) (own_lines table p lines))) [
       | true ↦ λ h.
           let within = lt-true p (length table.partitions) h in
           run table (upstream_marks table p) (upstream-closed table p good within) (upstream-fed table p good within) p (upstream-apart table p good within) good books ticks failed
-          lines (start table durable) (start table (restricted table p durable)) v (start-alike table (upstream_marks table p) durable v) all
+          lines (start table durable) (start table (restricted table p durable)) v (start-alike table (upstream_marks table p) durable v)
       | false ↦ λ h.
           let far = lt-false p (length table.partitions) h in
           no-replies table failed p far lines (start table durable) all

@@ -11,11 +11,10 @@ use Rattle.apex_types.specs.declared.replies.Updated.TheVariants.{EmptyPort}
 use Rattle.apex_types.specs.declared.replies.Values.TheVariants.{SourceStatus, State}
 use Rattle.apex_types.specs.declared.rows.ChannelRow.{ChannelRow}
 use Rattle.apex_model.specs.Channels.{Sample, Channel, PortSystem, PortOutcome, empty_channel, channel_in, with_channel, granted, is_made, port_number, port_named, on_port, create_port, sampled, write_at_end, write_sampling_message, updated_at, consumed_at, read_sample, on_sample, read_updated, read_conditional, destination_status, current_status, sampling_service, sampling_step}
-use Rattle.apex_model.specs.Lines.{SamplingCallHasBytes}
 use Rattle.apex_model.specs.Logbooks.{is_normal, is_idle}
 use Rattle.apex_model.specs.Outcomes.{state_after, accepted, refused, bare_refusal, refuse_with}
 use Rattle.apex_model.specs.Tables.{Port, End, source_end, destination_end, ports, ports_of}
-use Rattle.apex_model.specs.Validity.{AreBytes, IsValidChannel, IsValidPorts}
+use Rattle.apex_model.specs.Validity.{IsValidChannel, IsValidPorts}
 use Rattle.apex_model.proofs.Cuts.{length-map}
 use Rattle.apex_model.proofs.Keeps.{keeps-if_with, lt-false, eq-false, zip-get, zip-set}
 
@@ -49,9 +48,9 @@ module _ (table : Rows) (now : ℕ) (old : PortSystem) (v : IsValidPorts table n
       record { channels = v.channels; created = length-set old.created k true ∙ v.created }))))
 
   -- WRITE_SAMPLING_MESSAGE
-  at-end : (k : ℕ) (row : ChannelRow) (bytes : List ℕ) (end : End) → slice_get table.channels k ≡ Some row → AreBytes bytes → IsValidPorts table now (state_after old (write_at_end old now k row bytes end))
-  at-end k row bytes (destination_end d) e are = v
-  at-end k row bytes source_end e are =
+  at-end : (k : ℕ) (row : ChannelRow) (bytes : List ℕ) (end : End) → slice_get table.channels k ≡ Some row → IsValidPorts table now (state_after old (write_at_end old now k row bytes end))
+  at-end k row bytes (destination_end d) e = v
+  at-end k row bytes source_end e =
       keeps-if_with (IsValidPorts table now) old (length bytes == 0) InvalidParam _ v (λ some.
       keeps-if_with (IsValidPorts table now) old (nat_lt row.size (length bytes)) InvalidConfig _ v (λ fits.
       with_channel-valid k row (sampled (channel_in old k) now bytes) e (record {
@@ -59,16 +58,15 @@ module _ (table : Rows) (now : ℕ) (old : PortSystem) (v : IsValidPorts table n
           message = record {
             some = let n : length bytes ≢ 0 = eq-false (length bytes) 0 some in omega arith;
             fits = lt-false row.size (length bytes) fits;
-            bytes = are;
           };
           time = omega arith;
         };
         marks = length-map (λ mark. false) (channel_in old k).consumed ∙ (channel_valid k row e).marks;
       })))
 
-  write-valid : (p id : ℕ) (bytes : List ℕ) → AreBytes bytes → IsValidPorts table now (state_after old (write_sampling_message table old now p id bytes))
+  write-valid : (p id : ℕ) (bytes : List ℕ) → IsValidPorts table now (state_after old (write_sampling_message table old now p id bytes))
   unfolding write_sampling_message
-  write-valid p id bytes are = keeps-on_port p id _ (λ port row e. at-end port.channel row bytes port.end e are)
+  write-valid p id bytes = keeps-on_port p id _ (λ port row e. at-end port.channel row bytes port.end e)
 
   -- READ_UPDATED_SAMPLING_MESSAGE and READ_SAMPLING_MESSAGE_CONDITIONAL
   read-valid : (k : ℕ) (row : ChannelRow) (d : ℕ) (sample : Sample) → slice_get table.channels k ≡ Some row → IsValidPorts table now (state_after old (read_sample old now k row d sample))
@@ -117,13 +115,13 @@ module _ (table : Rows) (now : ℕ) (old : PortSystem) (v : IsValidPorts table n
       by-end port row source_end = v
       by-end port row (destination_end d) = at-destination port.channel row d (channel_in old port.channel).sample
 
-  sampling_service-valid : (p : ℕ) (mode : Mode) (c : SamplingCall) → SamplingCallHasBytes c → IsValidPorts table now (state_after old (sampling_service table old now p mode c))
-  sampling_service-valid p mode (Create name) bytes = create-valid p mode name
-  sampling_service-valid p mode (Write id message) bytes = write-valid p id message bytes
-  sampling_service-valid p mode (ReadUpdated id) bytes = read_updated-valid p id
-  sampling_service-valid p mode (CurrentStatus id) bytes = current_status-valid p id
-  sampling_service-valid p mode (ReadConditional id time) bytes = read_conditional-valid p id time
+  sampling_service-valid : (p : ℕ) (mode : Mode) (c : SamplingCall) → IsValidPorts table now (state_after old (sampling_service table old now p mode c))
+  sampling_service-valid p mode (Create name) = create-valid p mode name
+  sampling_service-valid p mode (Write id message) = write-valid p id message
+  sampling_service-valid p mode (ReadUpdated id) = read_updated-valid p id
+  sampling_service-valid p mode (CurrentStatus id) = current_status-valid p id
+  sampling_service-valid p mode (ReadConditional id time) = read_conditional-valid p id time
 
   -- a sampling call keeps ports and channels valid
-  pub sampling_step-valid : (p : ℕ) (mode : Mode) (c : SamplingCall) → SamplingCallHasBytes c → IsValidPorts table now (state_after old (sampling_step table old now p mode c))
-  sampling_step-valid p mode c bytes = keeps-if_with (IsValidPorts table now) old (is_idle mode) InvalidMode _ v (λ _. sampling_service-valid p mode c bytes)
+  pub sampling_step-valid : (p : ℕ) (mode : Mode) (c : SamplingCall) → IsValidPorts table now (state_after old (sampling_step table old now p mode c))
+  sampling_step-valid p mode c = keeps-if_with (IsValidPorts table now) old (is_idle mode) InvalidMode _ v (λ _. sampling_service-valid p mode c)

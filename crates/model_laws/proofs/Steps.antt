@@ -7,19 +7,21 @@ use Rattle.apex_types.specs.declared.calls.Call.{Call}
 use Rattle.apex_types.specs.declared.calls.Call.TheVariants as call
 use Rattle.apex_types.specs.declared.calls.Deed.{Deed}
 use Rattle.apex_types.specs.declared.calls.Deed.TheVariants as deed
+use Rattle.apex_types.specs.declared.calls.Line.{Line}
 use Rattle.apex_types.specs.declared.calls.Mode.{Mode}
 use Rattle.apex_types.specs.declared.calls.Mode.TheVariants.{Idle, ColdStart, WarmStart, Normal}
 use Rattle.apex_model.specs.Accepted.{IsAccepted}
 use Rattle.apex_model.specs.Channels.{sampling_step}
 use Rattle.apex_model.specs.DirectoryStep.{directory_step}
+use Rattle.apex_model.specs.FailedReads.{world_after_line}
 use Rattle.apex_model.specs.FileStep.{file_step}
 use Rattle.apex_model.specs.Handles.{Handles, OpenedFile, OpenedDirectory, no_handles, handle_at}
 use Rattle.apex_model.specs.Laws.{LogbookStepKeepsValid, TickKeepsValid, StepKeepsValid, CutBetweenKeepsValid, CutKeepsValid}
-use Rattle.apex_model.specs.Lines.{CallHasBytes, IsDeedOf}
 use Rattle.apex_model.specs.Outcomes.{state_after}
 use Rattle.apex_model.specs.Tables.{ports}
 use Rattle.apex_model.specs.Validity.{HasAllSlots, IsValid}
 use Rattle.apex_model.specs.World.{Partition, World, partition_in, is_ready, marks_without, restarted, with_partition, enter_normal, set_mode, with_files, with_ports, call_step, world_after}
+use Rattle.apex_model.proofs.FailedReads.{line_stays_or_steps}
 use Rattle.apex_model.proofs.Keeps.{state_after-map}
 use Rattle.apex_model.proofs.ValidFiles.{index-set}
 use Rattle.model_laws.proofs.DirectoryCalls.{directory_call-valid}
@@ -82,29 +84,39 @@ module _ (table : Rows) (w : World) (v : IsValid table w) where
 -- ---- lines
 
 -- a call or a directive keeps a world valid, where a logbook call does
-pub call-valid : LogbookStepKeepsValid → (table : Rows) (w : World) (p : ℕ) (c : Call) → IsAccepted table → IsValid table w → CallHasBytes c → IsValid table (state_after w (call_step table w p c))
-call-valid books table w p (call.File c) good v bytes =
+pub call-valid : LogbookStepKeepsValid → (table : Rows) (w : World) (p : ℕ) (c : Call) → IsAccepted table → IsValid table w → IsValid table (state_after w (call_step table w p c))
+call-valid books table w p (call.File c) good v =
     let P : World → Type 0 = λ u. IsValid table u in
     subst P (sym (state_after-map (with_files w) w.files (file_step table w.files p (is_ready (partition_in w p)) c)))
-    (record { files = file_call-valid table w.files p (is_ready (partition_in w p)) c good v.files bytes; logbooks = v.logbooks; ports = v.ports; partitions = v.partitions })
-call-valid books table w p (call.Directory c) good v bytes =
+    (record { files = file_call-valid table w.files p (is_ready (partition_in w p)) c good v.files; logbooks = v.logbooks; ports = v.ports; partitions = v.partitions })
+call-valid books table w p (call.Directory c) good v =
     let P : World → Type 0 = λ u. IsValid table u in
     subst P (sym (state_after-map (with_files w) w.files (directory_step table w.files p (is_ready (partition_in w p)) c)))
     (record { files = directory_call-valid table w.files p (is_ready (partition_in w p)) c good v.files; logbooks = v.logbooks; ports = v.ports; partitions = v.partitions })
-call-valid books table w p (call.Logbook c) good v bytes = books table w p c good v bytes
-call-valid books table w p (call.Sampling c) good v bytes =
+call-valid books table w p (call.Logbook c) good v = books table w p c good v
+call-valid books table w p (call.Sampling c) good v =
     let P : World → Type 0 = λ u. IsValid table u in
     subst P (sym (state_after-map (with_ports w) w.ports (sampling_step table w.ports w.time p (partition_in w p).mode c)))
-    (record { files = v.files; logbooks = v.logbooks; ports = sampling_step-valid table w.time w.ports v.ports p (partition_in w p).mode c bytes; partitions = v.partitions })
-call-valid books table w p (call.SetMode mode) good v bytes = set_mode-valid table w v p mode
-call-valid books table w p (call.SetContext context) good v bytes = with_partition-valid table w v p _
+    (record { files = v.files; logbooks = v.logbooks; ports = sampling_step-valid table w.time w.ports v.ports p (partition_in w p).mode c; partitions = v.partitions })
+call-valid books table w p (call.SetMode mode) good v = set_mode-valid table w v p mode
+call-valid books table w p (call.SetContext context) good v = with_partition-valid table w v p _
 
-pub deed-valid : LogbookStepKeepsValid → TickKeepsValid → (table : Rows) (w : World) (d : Deed) → IsAccepted table → IsValid table w → IsDeedOf table d → IsValid table (world_after table w d)
-deed-valid books ticks table w (deed.Tick n) good v is = ticks table w n good v
-deed-valid books ticks table w (deed.Partition p c) good v is = call-valid books table w p.0 c good v is.1
+pub deed-valid : LogbookStepKeepsValid → TickKeepsValid → (table : Rows) (w : World) (d : Deed) → IsAccepted table → IsValid table w → IsValid table (world_after table w d)
+deed-valid books ticks table w (deed.Tick n) good v = ticks table w n good v
+deed-valid books ticks table w (deed.Partition p c) good v = call-valid books table w p.0 c good v
+
+-- and so does a line, also where its read fails
+pub line-valid : LogbookStepKeepsValid → TickKeepsValid → (table : Rows) (failed : List ℕ) (w : World) (line : Line) → IsAccepted table → IsValid table w
+    → IsValid table (world_after_line table failed w line)
+line-valid books ticks table failed w line good v =
+    let P : World → Type 0 = λ u. IsValid table u in
+    elim (line_stays_or_steps table failed w line) [
+      | inl same ↦ subst P (sym same) v
+      | inr stepped ↦ subst P (sym stepped) (deed-valid books ticks table w line.deed good v)
+    ]
 
 pub step-valid : LogbookStepKeepsValid → TickKeepsValid → StepKeepsValid
-step-valid books ticks table w line good v is _ = deed-valid books ticks table w line.deed good v is.deed
+step-valid books ticks = deed-valid books ticks
 
 pub cut-valid : CutBetweenKeepsValid → StepKeepsValid → CutKeepsValid
-cut-valid between step table w line durable good v is early cut = between table w (world_after table w line.deed) durable v (step table w line good v is early) cut
+cut-valid between step table w d durable good v cut = between table w (world_after table w d) durable v (step table w d good v) cut

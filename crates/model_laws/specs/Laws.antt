@@ -8,7 +8,6 @@ use Rattle.apex_model.specs.Accepted.{IsAccepted}
 use Rattle.apex_model.specs.DirectoryStep.{directory_step}
 use Rattle.apex_model.specs.FileStep.{file_step}
 use Rattle.apex_model.specs.FileSystem.{FileSystem}
-use Rattle.apex_model.specs.Lines.{FileCallHasBytes}
 use Rattle.apex_model.specs.Outcomes.{reply_of, state_after}
 use Rattle.apex_model.specs.Validity.{IsValidFileSystem}
 
@@ -24,8 +23,8 @@ DirectoryRefusalChangesNothing = (table : Rows) (fs : FileSystem) (p : ℕ) (rea
 
 -- a file call keeps trees and handles valid
 abbrev pub FileCallKeepsValid : Type 0
-FileCallKeepsValid = (table : Rows) (fs : FileSystem) (p : ℕ) (ready : Bool) (c : FileCall) → IsAccepted table → IsValidFileSystem table fs → FileCallHasBytes c
-    → IsValidFileSystem table (state_after fs (file_step table fs p ready c))
+FileCallKeepsValid = (table : Rows) (fs : FileSystem) (p : ℕ) (ready : Bool) (c : FileCall)
+    → IsAccepted table → IsValidFileSystem table fs → IsValidFileSystem table (state_after fs (file_step table fs p ready c))
 
 -- a directory call keeps trees and handles valid
 abbrev pub DirectoryCallKeepsValid : Type 0

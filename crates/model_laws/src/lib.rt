@@ -27,7 +27,7 @@ pub fn directory_call_keeps_valid()
     ensures { DirectoryCallKeepsValid }
 {}
 
-/// A line of the table keeps a world valid.
+/// A call, a directive or a tick keeps a world valid.
 pub fn step_keeps_valid()
     ensures { StepKeepsValid }
 {
@@ -35,7 +35,7 @@ pub fn step_keeps_valid()
     tick_keeps_valid();
 }
 
-/// What a cut of power during a line may leave can be started from.
+/// What a cut of power during a call, a directive or a tick may leave can be started from.
 pub fn cut_during_keeps_valid()
     ensures { CutKeepsValid }
 {
