@@ -11,7 +11,16 @@ pub mod FilesBeside
 pub mod Handles
 pub mod Isolation
 pub mod Places
+pub mod PlainDirectories
+pub mod PlainFiles
+pub mod PlainLogbooks
+pub mod PlainOutcomes
+pub mod PlainPorts
+pub mod PlainSteps
 pub mod Refusals
+pub mod ReplyLines
+pub mod RunText
 pub mod SamplingCalls
 pub mod Steps
 pub mod TreeChanges
+pub mod Words
