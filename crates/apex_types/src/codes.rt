@@ -20,7 +20,7 @@ impl<T: Drop> From<AllocFailed<T>> for OutOfMemory {
     }
 }
 
-/// A step of the services was not carried out: a call of the device failed, or memory was wanting.
+/// A step of the services was not carried out: a call of the device failed, or there was no memory.
 #[derive(Clone, Copy, PartialEq, Eq)]
 pub enum StepFault {
     Device,

@@ -6,7 +6,7 @@ use std::alloc::Global;
 use std::marker::Model;
 
 /// A block of a file.
-#[derive(Clone, Copy, Debug, PartialEq, Eq)]
+#[derive(Clone, Copy)]
 pub struct Block {
     pub file: FileNode,
     pub index: u32,
@@ -33,7 +33,7 @@ impl Buffer {
     pub fn new(alloc: Global) -> Result<Buffer, OutOfMemory>
         ensures { IfOk result (λ buffer. buffer ≡ replicate 512 0) }
     {
-        let bytes = vec![in alloc; 0; 512].map_err(|_| OutOfMemory)?;
+        let bytes = vec![in alloc; 0; 512]?;
         Ok(Buffer { bytes })
     }
 

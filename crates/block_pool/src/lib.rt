@@ -5,8 +5,6 @@ mod buffers;
 mod links;
 mod lists;
 mod pool;
-#[cfg(test)]
-mod tests;
 
 pub use lists::IndexLists;
 pub use pool::Pool;

@@ -35,7 +35,7 @@ pub fn place_before(nodes: u32, k: u32) -> u32
 pub fn push_link(links: &mut Vec<u32>, place: u32) -> Result<(), OutOfMemory>
     ensures { IfOk result (λ _. links.new.items ≡ links.old.items ++ place ∷ []) }
 {
-    links.push(place).map_err(|_| OutOfMemory)?;
+    links.push(place)?;
     Ok(())
 }
 

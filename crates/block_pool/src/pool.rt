@@ -41,8 +41,8 @@ impl Pool {
         let mut blocks = Vec::new(alloc);
         let mut contents = Vec::new(alloc);
         for _ in 0..buffers {
-            blocks.push(None).map_err(|_| OutOfMemory)?;
-            contents.push(Buffer::new(alloc)?).map_err(|_| OutOfMemory)?;
+            blocks.push(None)?;
+            contents.push(Buffer::new(alloc)?)?;
         }
         Ok(Pool {
             lists,

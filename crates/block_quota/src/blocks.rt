@@ -47,7 +47,7 @@ impl Blocks {
     {
         let mut used = Vec::new(alloc);
         for _ in 0..2 * quota as u32 {
-            used.push(false).map_err(|_| OutOfMemory)?;
+            used.push(false)?;
         }
         Ok(Blocks { used, from: 0 })
     }

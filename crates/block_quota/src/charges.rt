@@ -33,7 +33,7 @@ impl Charges {
     {
         let mut by_file = Vec::new(alloc);
         for _ in 0..files {
-            by_file.push(0).map_err(|_| OutOfMemory)?;
+            by_file.push(0)?;
         }
         Ok(Charges {
             by_file,

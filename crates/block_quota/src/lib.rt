@@ -6,6 +6,3 @@ mod charges;
 
 pub use blocks::Blocks;
 pub use charges::Charges;
-
-#[cfg(test)]
-mod tests;

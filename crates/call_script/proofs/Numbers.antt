@@ -1,9 +1,9 @@
 -- The numbers of a script's lines.
-use Rattle.std.proofs.Common.{◌≡◌, ℕ, zero, suc, ◌+◌, ◌<◌, ◌≤◌, ◌&&◌, Bool, true, false, ltb, leb, List, [], ◌∷◌, ◌++◌, length, get_or, Option, Some, None, option_to_list, Result, Ok, Err, cond, refl, ap, arith}
+use Rattle.std.proofs.Common.{◌≡◌, ℕ, zero, suc, ◌+◌, ◌<◌, ◌≤◌, ◌&&◌, Bool, true, false, ltb, leb, List, [], ◌∷◌, ◌++◌, length, get_or, Option, Some, None, option_to_list, cond, refl, ap, arith}
 use Rattle.std.proofs.lemmas.Bool.{and_parts}
 use Rattle.std.proofs.lemmas.Bool.Decides.{nat_tests}
 use Rattle.std.proofs.lemmas.List.{append-nil}
-use Rattle.std.specs.Prelude.{IfSome, OnOk, slice_index_or}
+use Rattle.std.specs.Prelude.{IfSome, slice_index_or}
 use Rattle.apex_types.specs.declared.calls.Line.{Line}
 use Rattle.script_model.specs.Numbering.{last_from, last_number, rise_above, AreNumbered}
 
@@ -76,14 +76,10 @@ found-numbered lines k line h lt e =
     let same : line.number ≡ (get_or lines k line).number = ap (λ (l : Line). l.number) e in
     (omega (arith, n.0, same), omega (arith, n.1, same))
 
--- a list to which a line was added, unless memory was wanting
+-- a list to which a line was added, unless there was no memory
 pub numbered-after : (ok : Bool) (old new : List Line) (line : Line) → new ≡ cond ok (old ++ line ∷ []) old → AreNumbered old → last_number old < line.number → line.number ≤ 20000 → AreNumbered new
 numbered-after true old new line e h above few = rw e (numbered-pushed old line h above few)
 numbered-after false old new line e h above few = rw e h
-
-pub last_number-after : {A E : Type 0} (r : Result A E) (old new : List Line) (line : Line) → OnOk r (new ≡ old ++ line ∷ []) → OnOk r (last_number new ≡ line.number)
-last_number-after (Ok x) old new line h = rw h (last_number-pushed old line)
-last_number-after (Err e) old new line h = tt
 
 -- ---- a script that grows line by line
 

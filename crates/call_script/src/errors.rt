@@ -3,26 +3,25 @@
 ghost use Rattle.std.specs.Prelude.{◌≡◌, ◌≤◌, length};
 
 use script_model::LineFault;
-use thiserror::Error;
 
 /// Why a script is refused. Each error of a line has the line's number, counted from 1. This project's own.
-#[derive(Clone, Copy, Debug, PartialEq, Eq, Error)]
+#[derive(Clone, Copy, Debug, PartialEq, Eq)]
 pub enum ScriptError {
-    #[error("the script has over 1,048,576 bytes or over 20,000 lines")]
+    /// The script has over 1,048,576 bytes or over 20,000 lines.
     TooLong,
-    #[error("line {line}: a byte outside printable ASCII")]
+    /// A byte outside printable ASCII.
     NotAscii { line: u32 },
-    #[error("line {line}: the first word is neither TICK nor a partition")]
+    /// The first word is neither TICK nor a partition.
     UnknownPartition { line: u32 },
-    #[error("line {line}: no call or directive that is offered")]
+    /// No call or directive that is offered.
     UnknownCall { line: u32 },
-    #[error("line {line}: another number of words, an empty word or a wrong keyword")]
+    /// Another number of words, an empty word or a wrong keyword.
     WrongArguments { line: u32 },
-    #[error("line {line}: a number or an offset that is not spelled so, or ticks out of range")]
+    /// A number or an offset that is not spelled so, or ticks out of range.
     BadNumber { line: u32 },
-    #[error("line {line}: data that is not spelled so")]
+    /// Data that is not spelled so.
     BadData { line: u32 },
-    #[error("no memory was left")]
+    /// No memory was left.
     OutOfMemory,
 }
 
@@ -63,7 +62,7 @@ impl ScriptError {
         }
     }
 
-    /// The number of the line that is refused; none where the whole script is refused, or memory was wanting.
+    /// The number of the line that is refused; none where the whole script is refused, or there was no memory.
     pub fn line(self) -> Option<u32>
         ensures { result ≡ line_of_error self }
     {

@@ -17,6 +17,3 @@ pub use parse::parse_script;
 pub use reply::{fault_line, refusal_line, reply_line};
 pub use reply_text::ReplyText;
 pub use script::Script;
-
-#[cfg(test)]
-mod tests;

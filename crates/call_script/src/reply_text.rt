@@ -6,7 +6,7 @@ use arrayvec::ArrayVec;
 use std::marker::Model;
 
 /// The text of a told line: at most 8,256 bytes.
-#[derive(Debug, Drop)]
+#[derive(Drop)]
 pub struct ReplyText {
     content: ArrayVec<u8, 8256>,
 }

@@ -8,7 +8,7 @@ use std::alloc::Global;
 use std::marker::Model;
 
 /// The lines of a script that are calls, directives or ticks. Their numbers rise, and lie from 1 to 20,000.
-#[derive(Debug, Drop)]
+#[derive(Drop)]
 pub struct Script {
     content: Vec<Line>,
 }
@@ -46,7 +46,8 @@ impl Script {
         ensures err { OnErr result (self.new ≡ self.old) }
     {
         let _content = &self.content;
-        self.content.push(line).map_err(|_| OutOfMemory)
+        self.content.push(line)?;
+        Ok(())
     }
 
     /// The number of lines.

@@ -20,7 +20,7 @@ Fails-is UnknownName read e = e
 Fails-is VolumeOverfull read e = e
 Fails-is ImageTooLarge read e = e
 
--- a refusal other than want of memory
+-- a refusal other than out of memory
 abbrev pub IsKnown : TableError → Type 0
 IsKnown OutOfMemory = ⊥
 IsKnown _ = Unit {0}

@@ -15,6 +15,3 @@ mod written_rows;
 pub use bytes::table_bytes;
 pub use table::read_table;
 pub use table_model::TableError;
-
-#[cfg(test)]
-mod tests;

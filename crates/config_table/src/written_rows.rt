@@ -4,7 +4,7 @@ use apex_types::{PartitionRow, VolumeRow};
 use table_model::{WrittenChannel, WrittenLogbook, WrittenTree};
 
 /// The rows of a document, with names in the place of indexes.
-#[derive(Debug, Drop)]
+#[derive(Drop)]
 pub struct WrittenRows {
     pub partitions: Vec<PartitionRow>,
     pub volumes: Vec<VolumeRow>,

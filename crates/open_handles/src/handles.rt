@@ -50,7 +50,7 @@ impl Handles {
         let mut all = Vec::new(alloc);
         for _ in 0..partitions {
             let handles = closed_handles(alloc)?;
-            all.push(handles).map_err(|_| OutOfMemory)?;
+            all.push(handles)?;
         }
         Ok(Handles { partitions: all })
     }
@@ -250,6 +250,3 @@ impl Handles {
         }
     }
 }
-
-#[cfg(test)]
-mod tests;

@@ -45,7 +45,7 @@ impl<H: Drop, const N: usize> Slots<H, N> {
     {
         let mut places = Vec::new(alloc);
         for _ in 0..N {
-            places.push(None).map_err(|_| OutOfMemory)?;
+            places.push(None)?;
         }
         Ok(Slots { places })
     }

@@ -9,3 +9,4 @@ pub mod Scripts
 pub mod FirstFaults
 pub mod Lines
 pub mod Accepted
+mod Examples

@@ -1,5 +1,5 @@
-/// What is wrong with a line of a script, or with a word of it; or memory was wanting.
-#[derive(Clone, Copy, Debug, PartialEq, Eq)]
+/// What is wrong with a line of a script, or with a word of it; or there was no memory.
+#[derive(Clone, Copy)]
 pub enum LineFault {
     OutOfMemory,
     NotAscii,

@@ -1,5 +1,5 @@
 /// The file calls, without their arguments.
-#[derive(Clone, Copy, Debug, PartialEq, Eq)]
+#[derive(Clone, Copy)]
 pub enum FileVerb {
     OpenNewFile,
     OpenFile,
@@ -16,7 +16,7 @@ pub enum FileVerb {
 }
 
 /// The directory calls, without their arguments.
-#[derive(Clone, Copy, Debug, PartialEq, Eq)]
+#[derive(Clone, Copy)]
 pub enum DirectoryVerb {
     OpenDirectory,
     CloseDirectory,
@@ -28,7 +28,7 @@ pub enum DirectoryVerb {
 }
 
 /// The logbook calls, without their arguments.
-#[derive(Clone, Copy, Debug, PartialEq, Eq)]
+#[derive(Clone, Copy)]
 pub enum LogbookVerb {
     Create,
     Write,
@@ -40,7 +40,7 @@ pub enum LogbookVerb {
 }
 
 /// The sampling port calls, without their arguments.
-#[derive(Clone, Copy, Debug, PartialEq, Eq)]
+#[derive(Clone, Copy)]
 pub enum SamplingVerb {
     Create,
     Write,
@@ -50,7 +50,7 @@ pub enum SamplingVerb {
 }
 
 /// The calls and directives of a script, without their arguments.
-#[derive(Clone, Copy, Debug, PartialEq, Eq)]
+#[derive(Clone, Copy)]
 pub enum Verb {
     File(FileVerb),
     Directory(DirectoryVerb),

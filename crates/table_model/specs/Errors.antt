@@ -33,7 +33,7 @@ error_name VolumeOverfull = codes "VolumeOverfull"
 error_name ImageTooLarge = codes "ImageTooLarge"
 error_name OutOfMemory = codes "OutOfMemory"
 
--- the order in which refusals count: want of memory comes first, since then no more is known of the text
+-- the order in which refusals count: out of memory comes first, since then no more is known of the text
 abbrev pub order : TableError → ℕ
 order OutOfMemory = 0
 order e = error_number e

@@ -3,47 +3,33 @@
 ghost use Rattle.std.specs.Prelude.{◌≡◌};
 ghost use Rattle.table_model.specs.Errors.{error_number, error_name, order};
 
-use thiserror::Error;
-
 /// Why the text of a module table is refused: the first of these conditions, in their order, that holds of the whole
 /// text. The conditions and their order are this project's own.
-#[derive(Clone, Copy, Debug, PartialEq, Eq, Error)]
+#[derive(Clone, Copy, Debug, PartialEq, Eq)]
 pub enum TableError {
     /// Over 65,536 bytes.
-    #[error("the text has over 65,536 bytes")]
     TooLong,
     /// The bytes are no UTF-8, or no TOML document.
-    #[error("the text is no TOML document")]
     NotToml,
     /// A key at the top or in a row that no row of a module table has.
-    #[error("a key is unknown")]
     UnknownKey,
     /// The partitions, or a required key of a row, are missing.
-    #[error("a key is missing")]
     MissingKey,
     /// A value at the top is no list of tables, or a value isn't of its key's kind.
-    #[error("a value is of the wrong kind")]
     WrongKind,
     /// A string is no name of at most 24 bytes and no pair of such names, or a partition is named `TICK`.
-    #[error("a string is no name")]
     BadName,
     /// An integer, or a number of rows, readers or destinations, is outside its limits.
-    #[error("a number is out of its range")]
     OutOfRange,
     /// Two rows that must differ are the same, or a reader is listed twice or owns the tree.
-    #[error("a row or a name is repeated")]
     Repeated,
     /// A volume or a partition that no row has.
-    #[error("a name stands for no row")]
     UnknownName,
     /// The quotas of a volume's trees sum to more than its blocks.
-    #[error("the trees of a volume are larger than it")]
     VolumeOverfull,
     /// The layout has over 131,072 blocks.
-    #[error("the image would be too large")]
     ImageTooLarge,
     /// No memory was left.
-    #[error("out of memory")]
     OutOfMemory,
 }
 
@@ -88,7 +74,7 @@ impl TableError {
         }
     }
 
-    /// The place in the order in which refusals count: want of memory first, since then no more is known of the text.
+    /// The place in the order in which refusals count: out of memory first, since then no more is known of the text.
     pub fn order(self) -> u8
         ensures { result ≡ order self }
     {

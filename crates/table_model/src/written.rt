@@ -7,7 +7,7 @@ use arrayvec::ArrayVec;
 use std::marker::Model;
 
 /// The names of a tree's readers: at most 15.
-#[derive(Debug, Drop)]
+#[derive(Drop)]
 pub struct ReaderNames {
     content: ArrayVec<Name, 15>,
 }
@@ -51,7 +51,7 @@ impl ReaderNames {
 }
 
 /// A port as it is written: the names of its partition and of the port.
-#[derive(Debug, Default, Drop)]
+#[derive(Default, Drop)]
 pub struct WrittenPort {
     pub partition: Name,
     pub port: Name,
@@ -70,7 +70,7 @@ impl WrittenPort {
 }
 
 /// The destinations of a channel: at most 8.
-#[derive(Debug, Drop)]
+#[derive(Drop)]
 pub struct PortNames {
     content: ArrayVec<WrittenPort, 8>,
 }
@@ -115,7 +115,7 @@ impl PortNames {
 }
 
 /// A tree as it is written.
-#[derive(Debug, Drop)]
+#[derive(Drop)]
 pub struct WrittenTree {
     pub volume: Name,
     pub owner: Name,
@@ -129,7 +129,7 @@ pub struct WrittenTree {
 }
 
 /// A logbook as it is written.
-#[derive(Debug, Drop)]
+#[derive(Drop)]
 pub struct WrittenLogbook {
     pub name: Name,
     pub partition: Name,
@@ -140,7 +140,7 @@ pub struct WrittenLogbook {
 }
 
 /// A channel as it is written.
-#[derive(Debug, Drop)]
+#[derive(Drop)]
 pub struct WrittenChannel {
     pub source: WrittenPort,
     pub destinations: PortNames,
