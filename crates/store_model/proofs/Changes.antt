@@ -9,19 +9,21 @@ use Rattle.std.specs.Ordering.{eq_by_cmp}
 use Rattle.std.specs.FinMap.Entries.{find, is_sorted, find-put, is_sorted-put, same_entries}
 use Rattle.apex_types.specs.declared.codes.Errno.{Errno}
 use Rattle.apex_types.specs.declared.codes.Errno.TheVariants.{Efbig, Enospc, Eoverflow}
+use Rattle.apex_model.specs.Durable.{StoredFile}
 use Rattle.apex_model.specs.Files.{File, Content, past, change_count, blocks_of, longest, charge, new_file, changed, synchronised}
+use Rattle.apex_model.specs.Firsts.{oldest, first_file}
 use Rattle.apex_model.specs.Handles.{free_from}
 use Rattle.apex_model.specs.Outcomes.{Outcome, refuse_if, refuse_for}
 use Rattle.apex_model.specs.Trees.{Name, Node, directory, file, Tree, path_cmp, standing_at, with_node, without_node, node_charge, tree_charge}
 use Rattle.apex_model.proofs.Keeps.{lt-false}
 use Rattle.apex_model.proofs.Maps.{sum_by-put}
 use Rattle.apex_model.proofs.Trees.{path_cmp_total, path_cmp-IsAntisymmetric, same_path, charge-changed as charge-raised}
-use Rattle.file_tree.specs.Entries.{TreeValue, slot, in_directory, with_file, with_directory, without_file, without_directory, with_file_at, IsConsistent}
+use Rattle.file_tree.specs.Entries.{TreeValue, slot, in_directory, with_file, with_directory, without_file, without_directory, with_file_at, stored_of, with_stored, IsConsistent}
 use Rattle.file_tree.proofs.Changes.{is_some, slot-within, nothing_stands}
 use Rattle.file_tree.proofs.Children.{consistent}
 use Rattle.file_tree.proofs.Paths.{same_is}
 use Rattle.file_tree.proofs.Ways.{not_some, free-some}
-use Rattle.store_model.specs.Stores.{KeptFile, nothing_kept, StoreValue, kept_at, charge_at, total, empty_store, with_names, charge_with, change_refusal, changed_store, synchronised_store, removed_store, IsSound}
+use Rattle.store_model.specs.Stores.{KeptFile, nothing_kept, StoreValue, kept_at, charge_at, total, empty_store, with_names, charge_with, change_refusal, changed_store, synchronised_kept, synchronised_store, removed_store, IsSound}
 use Rattle.store_model.specs.Standing.{IsFile, IsEntry, IsTree}
 use Rattle.store_model.proofs.Entries.{SameKept, is-true, find-without, sorted-without, zip-sorted, zip-put, zip-without, zip-changed, zip-removed}
 use Rattle.store_model.proofs.Names.{sorted-names, file-at, path-of-file, file-found, file-kept, nothing-standing, directory-found}
@@ -124,12 +126,34 @@ set-elsewhere v tree f kept blocks = record {
   charges = length-set v.charges f blocks;
 }
 
-charge-elsewhere : (v : StoreValue) (f blocks : ℕ) → ChangedAt v (record { tree = v.tree; files = v.files; charges = slice_set v.charges f blocks; quota = v.quota }) f
-charge-elsewhere v f blocks = record {
-  elsewhere = λ g n. record { kept = refl; charge = sym (get_or-set_other v.charges f g blocks 0 n) };
-  files = refl;
-  charges = length-set v.charges f blocks;
-}
+-- what the stored body has of a used entry may be anything
+stored-consistent : (v : TreeValue) (f : ℕ) (names : List Name) (size changes : ℕ) → IsConsistent v → slot v.files f ≡ Some names → IsConsistent (with_stored v f size changes)
+stored-consistent v f names size changes c used =
+    let within : f < length v.stored = slot-within v.stored f (is_some (c.stored f names used)) in
+    let here : slot (slice_set v.stored f (Some (size, changes))) f ≡ Some (size, changes) = get_or-set_same v.stored f (Some (size, changes)) None within in
+    record {
+      nodes_are = c.nodes_are;
+      distinct = c.distinct;
+      some = c.some;
+      few = c.few;
+      parent = c.parent;
+      stored = λ g path at. elim (cases_eq g f) [
+        | inl same ↦ subst (λ (g : ℕ). slot (slice_set v.stored f (Some (size, changes))) g ≡ Some (stored_of (with_stored v f size changes) g)) (sym same)
+            (here ∙ ap (λ (o : Option (ℕ × ℕ)). Some (unwrap_or o (0, 0))) (sym here))
+        | inr other ↦
+            let kept : slot (slice_set v.stored f (Some (size, changes))) g ≡ slot v.stored g = get_or-set_other v.stored f g (Some (size, changes)) None other in
+            kept ∙ c.stored g path at ∙ ap (λ (o : Option (ℕ × ℕ)). Some (unwrap_or o (0, 0))) (sym kept)
+      ];
+    }
+
+-- a content more leaves the oldest one
+oldest-more : (contents : List Content) (last more : Content) → oldest contents last ≡ oldest (contents ++ last ∷ []) more
+oldest-more [] last more = refl
+oldest-more (content ∷ contents) last more = refl
+
+-- a change leaves what is synchronised
+first-changed : (g : File) (content : Content) → first_file g ≡ first_file (changed g content)
+first-changed g content = let stored : Content → StoredFile = λ first. record { content = first; changes = g.first } in ap stored (oldest-more g.earlier g.content content)
 
 -- the change count of a file after a change
 changes-more : (g : File) (content : Content) → change_count g + 1 ≡ change_count (changed g content)
@@ -190,7 +214,7 @@ module _ (v : StoreValue) (tree : Tree File) (t : IsTree v tree) (f : ℕ) (name
   -- a change of the file
   pub changed-stands : (content : Content) → total (slice_set v.charges f (charge_with v f (length content))) ≤ v.quota → IsTree (changed_store v f content) (with_node tree names (file (changed g content)))
   changed-stands content within =
-      let kept : KeptFile = record { content = content; changes = (kept_at v f).changes + 1 } in
+      let kept : KeptFile = record { content = content; changes = (kept_at v f).changes + 1; durable = (kept_at v f).durable } in
       let blocks = charge_with v f (length content) in
       let ch = set-elsewhere v v.tree f kept blocks in
       let here : kept_at (changed_store v f content) f ≡ kept = get_or-set_same v.files f kept nothing_kept (within-files v t.sound f names used) in
@@ -201,6 +225,7 @@ module _ (v : StoreValue) (tree : Tree File) (t : IsTree v tree) (f : ℕ) (name
           content = ap (λ (k : KeptFile). k.content) here;
           changes = ap (λ (k : KeptFile). k.changes) here ∙ ap (λ n. n + 1) changes-same ∙ changes-more g content;
           charge = charged ∙ charge-with content;
+          durable = ap (λ (k : KeptFile). k.durable) here ∙ kept-file.durable ∙ first-changed g content;
         });
         charge = charge-changed content;
       }
@@ -214,20 +239,31 @@ module _ (v : StoreValue) (tree : Tree File) (t : IsTree v tree) (f : ℕ) (name
   -- a synchronisation of the file
   pub synchronised-stands : IsTree (synchronised_store v f) (with_node tree names (file (synchronised g)))
   synchronised-stands =
+      let kept = synchronised_kept (kept_at v f) in
       let blocks = blocks_of (length (kept_at v f).content) in
-      let ch = charge-elsewhere v f blocks in
-      let charged : charge_at (synchronised_store v f) f ≡ blocks = get_or-set_same v.charges f blocks 0 (within-charges v t.sound f names used) in
+      let w = synchronised_store v f in
+      let ch = set-elsewhere v w.tree f kept blocks in
+      let here : kept_at w f ≡ kept = get_or-set_same v.files f kept nothing_kept (within-files v t.sound f names used) in
+      let charged : charge_at w f ≡ blocks = get_or-set_same v.charges f blocks 0 (within-charges v t.sound f names used) in
+      let stored : kept.durable ≡ first_file (synchronised g) = λ i. record { content = content-same i; changes = changes-same i } in
       let set = total-set v t.sound f names used blocks in
       let less = synchronised-less in
       let same = synchronised-charge in
       let own = kept-file.charge in
       let quota = t.sound.within_quota in
       record {
-        sound = sound-changed v t.sound f names used v.files (slice_set v.charges f blocks) ch (omega (arith, set, less, same, own, quota));
-        entries = entries-replaced (synchronised_store v f) (synchronised g) ch (record {
-          content = content-same;
-          changes = changes-same ∙ (let e : change_count g ≡ change_count g + 0 = omega arith in e);
+        sound = record {
+          names = stored-consistent v.tree f names (length (kept_at v f).content) (kept_at v f).changes t.sound.names used;
+          files = ch.files ∙ t.sound.files;
+          charges = ch.charges ∙ t.sound.charges;
+          unused = unused-kept v t.sound f names used w ch;
+          within_quota = omega (arith, set, less, same, own, quota);
+        };
+        entries = entries-replaced w (synchronised g) ch (record {
+          content = ap (λ (k : KeptFile). k.content) here ∙ content-same;
+          changes = ap (λ (k : KeptFile). k.changes) here ∙ changes-same ∙ (let e : change_count g ≡ change_count g + 0 = omega arith in e);
           charge = charged ∙ same;
+          durable = ap (λ (k : KeptFile). k.durable) here ∙ stored;
         });
         charge = charge-replaced (synchronised g) ∙ ap (λ blocks. total (slice_set v.charges f blocks)) (sym same);
       }
@@ -276,7 +312,7 @@ pub made-sound : (v : StoreValue) (f : ℕ) (names : List Name) → IsSound v �
 made-sound v f names s least c = placed-sound v f names (with_node v.tree.nodes names (file f)) (slice_set v.tree.stored f (Some (0, 0))) s (free-within v f least).0 c
 
 new-kept : (v : StoreValue) (f : ℕ) → (kept_at v f ≡ nothing_kept) × (charge_at v f ≡ 0) → IsFile (kept_at v f) (charge_at v f) new_file
-new-kept v f u = record { content = ap (λ (k : KeptFile). k.content) u.0; changes = ap (λ (k : KeptFile). k.changes) u.0; charge = u.1 }
+new-kept v f u = record { content = ap (λ (k : KeptFile). k.content) u.0; changes = ap (λ (k : KeptFile). k.changes) u.0; charge = u.1; durable = ap (λ (k : KeptFile). k.durable) u.0 }
 
 -- the charge of a tree with one more node
 charge-added : (v : StoreValue) (tree : Tree File) (t : IsTree v tree) (names : List Name) (n : Node File) → standing_at v.tree.nodes names ≡ None → node_charge n ≡ 0 → tree_charge (with_node tree names n) ≡ total v.charges

@@ -214,6 +214,7 @@ there-kept v w (Some (file f)) (Some (file g)) same h =
       content = ap (λ (k : KeptFile). k.content) (sym s.kept) ∙ h.content;
       changes = ap (λ (k : KeptFile). k.changes) (sym s.kept) ∙ h.changes;
       charge = sym s.charge ∙ h.charge;
+      durable = ap (λ (k : KeptFile). k.durable) (sym s.kept) ∙ h.durable;
     }
 
 -- another file stands at a path, of which the store keeps something new

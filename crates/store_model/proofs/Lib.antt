@@ -1,6 +1,7 @@
 pub mod Changes
 pub mod Counts
 pub mod Entries
+pub mod Firsts
 pub mod Handles
 pub mod HandlesHeld
 pub mod HandlesMoved

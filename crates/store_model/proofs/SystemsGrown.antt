@@ -61,6 +61,13 @@ ways_stay : (old new : TreeValue) → ((d : ℕ) (path : List Name) → slot old
 ways_stay old new each zero path e = e
 ways_stay old new each (suc d) path e = each d path e
 
+-- with the same path at each entry
+pub stays-paths : (old new : TreeValue) → new.files ≡ old.files → new.directories ≡ old.directories → StaysAt old new
+stays-paths old new files directories = record {
+  files = λ g path e. ap (λ (paths : List (Option (List Name))). slot paths g) files ∙ e;
+  directories = ways_stay old new (λ d path e. ap (λ (paths : List (Option (List Name))). slot paths d) directories ∙ e);
+}
+
 -- an entry of a file that was not in use has a path now
 pub stays-made_file : (old new : TreeValue) (f : ℕ) (names : List Name) → slot old.files f ≡ None → new.files ≡ slice_set old.files f (Some names) → new.directories ≡ old.directories → StaysAt old new
 stays-made_file old new f names free files directories = record {
@@ -114,6 +121,10 @@ module _ (stores : List StoreValue) (handles : AllHandles) (fs : FileSystem) (s 
     -- with the same names
     pub store_changed-stands : v.tree ≡ (store_at stores t).tree → Stands (slice_set stores t v) handles (with_tree fs t tree)
     store_changed-stands names = store_grown-stands (stays-same (store_at stores t).tree v.tree names)
+
+    -- with the same path at each entry
+    pub same_paths-stands : v.tree.files ≡ (store_at stores t).tree.files → v.tree.directories ≡ (store_at stores t).tree.directories → Stands (slice_set stores t v) handles (with_tree fs t tree)
+    same_paths-stands files directories = store_grown-stands (stays-paths (store_at stores t).tree v.tree files directories)
 
     -- with one more file
     pub made-stands-system : (f : ℕ) (names : List Name) → slot (store_at stores t).tree.files f ≡ None → v.tree.files ≡ slice_set (store_at stores t).tree.files f (Some names)

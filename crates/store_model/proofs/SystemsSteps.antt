@@ -15,8 +15,8 @@ use Rattle.file_tree.specs.Entries.{slot, with_file, with_directory, without_dir
 use Rattle.file_tree.proofs.Ways.{free-some}
 use Rattle.open_handles.specs.NodeHandles.{AllHandles, handles_of, with_file_slot, with_file_gone, with_directory_gone}
 use Rattle.open_handles.specs.Nodes as nodes
-use Rattle.store_model.proofs.Systems.{same_names-of_table, file_entry-of_table, directory_entry-of_table}
-use Rattle.store_model.proofs.SystemsGrown.{store_changed-stands, made_directory-stands-system, written-stands, made_and_opened-stands}
+use Rattle.store_model.proofs.Systems.{store-of_table, same_names-of_table, file_entry-of_table, directory_entry-of_table}
+use Rattle.store_model.proofs.SystemsGrown.{same_paths-stands, made_directory-stands-system, written-stands, made_and_opened-stands}
 use Rattle.store_model.proofs.SystemsMoved.{removed-stands-system, renamed-stands-system, removed_directory-stands-system}
 use Rattle.store_model.specs.Standing.{IsTree}
 use Rattle.store_model.specs.Stores.{StoreValue, with_names, changed_store, synchronised_store, removed_store}
@@ -45,7 +45,7 @@ module _ (stores : List StoreValue) (handles : AllHandles) (fs : FileSystem) (s 
 
   -- a file was synchronised
   pub synchronised_file-stands : (f : ℕ) → v ≡ synchronised_store (store_at stores t) f → Stands (slice_set stores t v) handles (with_tree fs t tree)
-  synchronised_file-stands f is = store_changed-stands stores handles fs s t v tree stands_for (ap (λ (w : StoreValue). w.tree) is)
+  synchronised_file-stands f is = same_paths-stands stores handles fs s t v tree stands_for (ap (λ (w : StoreValue). w.tree.files) is) (ap (λ (w : StoreValue). w.tree.directories) is)
 
   -- a file was made and opened
   pub new_file-stands : (f : FileNode) (names : List Name) → free_from 0 (store_at stores t).tree.files ≡ Some f.0 → v ≡ with_names (store_at stores t) (with_file (store_at stores t).tree f.0 names)
@@ -88,7 +88,7 @@ module _ (table : Rows) (stores : List StoreValue) (handles : AllHandles) (o : I
   changed_file-of_table f content is = same_names-of_table table stores handles o t v (ap (λ (w : StoreValue). w.quota) is) (ap (λ (w : StoreValue). w.tree) is)
 
   pub synchronised_file-of_table : (f : ℕ) → v ≡ synchronised_store (store_at stores t) f → IsOfTable table (slice_set stores t v) handles
-  synchronised_file-of_table f is = same_names-of_table table stores handles o t v (ap (λ (w : StoreValue). w.quota) is) (ap (λ (w : StoreValue). w.tree) is)
+  synchronised_file-of_table f is = store-of_table table stores handles o t v (ap (λ (w : StoreValue). w.quota) is) (ap (λ (w : StoreValue). length w.tree.files) is) (ap (λ (w : StoreValue). length w.tree.directories) is)
 
   pub new_file-of_table : (f : ℕ) (names : List Name) → v ≡ with_names (store_at stores t) (with_file (store_at stores t).tree f names) → IsOfTable table (slice_set stores t v) handles
   new_file-of_table f names is =

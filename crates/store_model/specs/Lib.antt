@@ -1,3 +1,4 @@
+pub mod Betweens
 pub mod Standing
 pub mod Stores
 pub mod Systems

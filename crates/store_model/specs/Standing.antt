@@ -2,6 +2,7 @@
 use Rattle.std.specs.Prelude.{◌≡◌, ℕ, List, ⊤}
 use Rattle.std.specs.List.{AllZip}
 use Rattle.apex_model.specs.Files.{File, change_count, charge}
+use Rattle.apex_model.specs.Firsts.{first_file}
 use Rattle.apex_model.specs.Trees.{Name, Node, directory, file, Tree, tree_charge}
 use Rattle.store_model.specs.Stores.{KeptFile, StoreValue, kept_at, charge_at, total, IsSound}
 
@@ -10,6 +11,8 @@ pub record IsFile (kept : KeptFile) (charged : ℕ) (f : File) : Type 0 where
   pub content : kept.content ≡ f.content
   pub changes : kept.changes ≡ change_count f
   pub charge : charged ≡ charge f
+  -- a cut leaves the synchronised content, which is one that the definitions allow
+  pub durable : kept.durable ≡ first_file f
 
 -- an entry's number stands for the file of that entry
 abbrev pub IsNode : StoreValue → Node ℕ → Node File → Type 0

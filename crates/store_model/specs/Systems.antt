@@ -1,5 +1,5 @@
 -- When stores and handles stand for the file system that the services work on: where it has paths, they have entries.
-use Rattle.std.specs.Prelude.{◌≡◌, ℕ, List, [], length, map, Option, Some, None, option_map, option_and_then, slice_index_or}
+use Rattle.std.specs.Prelude.{◌≡◌, ℕ, List, [], length, map, Option, Some, option_map, option_and_then, slice_index_or}
 use Rattle.std.specs.List.{AllZip}
 use Rattle.apex_types.specs.Rows.{Rows}
 use Rattle.apex_types.specs.declared.fields.DirHandle.{DirHandle}
