@@ -13,9 +13,9 @@ use Rattle.file_tree.specs.Entries.{TreeValue, IsSpotAt}
 use Rattle.open_handles.specs.NodeHandles.{AllHandles}
 use Rattle.store_model.specs.Stores.{StoreValue}
 use Rattle.store_model.specs.Systems.{Stands, store_at, directory_path}
-use Rattle.tree_store.specs.Refusals.{IsRefusal}
-use Rattle.tree_store.specs.declared.refusal.StoreRefusal.{StoreRefusal}
-use Rattle.tree_store.specs.declared.refusal.StoreRefusal.TheVariants.{Refused}
+use Rattle.memory_store.specs.Refusals.{IsRefusal}
+use Rattle.memory_store.specs.declared.refusal.StoreRefusal.{StoreRefusal}
+use Rattle.memory_store.specs.declared.refusal.StoreRefusal.TheVariants.{Refused}
 use Rattle.store_model.proofs.Spots.{spot-same}
 use Rattle.store_model.proofs.Systems.{store-there}
 

@@ -13,10 +13,10 @@ use crate::making::make_directory;
 use crate::opening::{close_directory, open_directory};
 use crate::removing::remove_directory;
 use apex_types::{DirCall, Errno, PartitionId, Reply, StepFault, Table};
+use memory_store::Trees;
 use open_handles::Handles;
 use rig_core::Rig;
 use service_parts::refusal;
-use tree_store::Trees;
 
 /// Carries out a directory call of a partition that is ready for one.
 fn serve<R: Rig>(

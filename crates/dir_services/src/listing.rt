@@ -9,9 +9,9 @@ ghost use Rattle.store_model.specs.Systems.{store_at, directory_path};
 ghost use Rattle.service_parts.specs.Serving.{AreServing, IsServed};
 
 use apex_types::{DirHandle, DirNode, Errno, Name, PartitionId, Reply, Spot, Values};
+use memory_store::Trees;
 use open_handles::Handles;
 use service_parts::{refusal, success};
-use tree_store::Trees;
 
 /// The last name that was given of a directory.
 fn last_of(handle: &DirHandle) -> Option<Name>

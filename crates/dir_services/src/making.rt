@@ -12,9 +12,9 @@ ghost use Rattle.service_parts.specs.Serving.{IsServed};
 ghost use Rattle.dir_services.specs.Steps.{make_at};
 
 use apex_types::{DirNode, Errno, PartitionId, Reply, Spot, StepFault, Table, Values};
+use memory_store::{StoreRefusal, Trees};
 use rig_core::Rig;
 use service_parts::{Place, Right, last_name, place_of, refusal, success};
-use tree_store::{StoreRefusal, Trees};
 
 /// Makes a directory in one that has nothing of its name, if the tree has room for it.
 fn make_in<R: Rig>(

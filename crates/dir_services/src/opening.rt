@@ -10,9 +10,9 @@ ghost use Rattle.store_model.specs.Systems.{IsOfTable, store_at, directory_path}
 ghost use Rattle.service_parts.specs.Serving.{IsServed};
 
 use apex_types::{DirNode, Errno, PartitionId, Reply, Spot, Table, Values};
+use memory_store::Trees;
 use open_handles::Handles;
 use service_parts::{Right, place_of, refusal, success};
-use tree_store::Trees;
 
 /// Opens a directory of a tree, before its first name.
 fn open_found(handles: &mut Handles, p: PartitionId, tree: u32, found: DirNode) -> Reply

@@ -13,10 +13,10 @@ ghost use Rattle.service_parts.specs.Places.{model_place};
 ghost use Rattle.service_parts.specs.Serving.{IsServed};
 
 use apex_types::{DirNode, Errno, PartitionId, Reply, Spot, StepFault, Table, Values};
+use memory_store::{StoreRefusal, Trees};
 use open_handles::Handles;
 use rig_core::Rig;
 use service_parts::{Place, Right, place_of, refusal, success};
-use tree_store::{StoreRefusal, Trees};
 
 /// Removes a directory other than the root of which the caller has no handle, if nothing stands in it. The handles of others are stale then.
 fn remove_closed<R: Rig>(

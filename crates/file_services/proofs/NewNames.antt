@@ -27,9 +27,9 @@ use Rattle.open_handles.specs.Nodes as nodes
 use Rattle.store_model.specs.Stores.{StoreValue, with_names, IsSound}
 use Rattle.store_model.specs.Systems.{IsOfTable, store_at, no_store}
 use Rattle.store_model.proofs.Systems.{file_limit-is, stores-long}
-use Rattle.tree_store.specs.Refusals.{IsRefusal}
-use Rattle.tree_store.specs.declared.refusal.StoreRefusal.{StoreRefusal}
-use Rattle.tree_store.specs.declared.refusal.StoreRefusal.TheVariants.{Refused}
+use Rattle.memory_store.specs.Refusals.{IsRefusal}
+use Rattle.memory_store.specs.declared.refusal.StoreRefusal.{StoreRefusal}
+use Rattle.memory_store.specs.declared.refusal.StoreRefusal.TheVariants.{Refused}
 use Rattle.service_parts.specs.Serving.{IsServed}
 use Rattle.service_parts.proofs.Served.{served-as}
 use Rattle.file_services.proofs.MakingLaws.{make_step, make-none_free, make-done}

@@ -19,10 +19,10 @@ use crate::renaming::rename_file;
 use crate::seeking::seek_file;
 use crate::volumes::get_volume_status;
 use apex_types::{Errno, FileCall, PartitionId, Reply, StepFault, Table};
+use memory_store::Trees;
 use open_handles::Handles;
 use rig_core::Rig;
 use service_parts::refusal;
-use tree_store::Trees;
 
 /// Carries out a file call of a partition that is ready for one.
 fn serve<R: Rig>(

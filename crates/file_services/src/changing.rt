@@ -8,10 +8,10 @@ ghost use Rattle.store_model.specs.Systems.{IsOfTable};
 ghost use Rattle.service_parts.specs.Serving.{AreStanding, AreServing, IsServed};
 
 use apex_types::{Errno, FileHandle, FileNode, OpenMode, PartitionId, Reply, StepFault, Values};
+use memory_store::{StoreRefusal, Trees};
 use open_handles::Handles;
 use rig_core::Rig;
 use service_parts::{refusal, success};
-use tree_store::{StoreRefusal, Trees};
 
 /// Puts bytes into the file of a handle, as one change, and moves the handle behind them.
 fn write_through<R: Rig>(
@@ -169,7 +169,7 @@ fn sync_through<R: Rig>(
     }
 }
 
-/// Synchronises an open file: from then on it is charged for its present content alone.
+/// Synchronises an open file: from then on its present content is durable, and it is charged for that alone.
 pub fn sync_file<R: Rig>(
     trees: &mut Trees,
     handles: &Handles,

@@ -12,10 +12,10 @@ ghost use Rattle.service_parts.specs.Places.{model_place};
 ghost use Rattle.service_parts.specs.Serving.{IsServed};
 
 use apex_types::{DirNode, Errno, OpenMode, PartitionId, Reply, Spot, StepFault, Table, Values};
+use memory_store::{StoreRefusal, Trees};
 use open_handles::Handles;
 use rig_core::Rig;
 use service_parts::{Place, Right, last_name, place_of, refusal, success};
-use tree_store::{StoreRefusal, Trees};
 
 /// Makes an empty file in a directory that has nothing of its name, where there is room for one handle more, and opens it.
 fn make_file<R: Rig>(

@@ -14,9 +14,9 @@ ghost use Rattle.service_parts.specs.Places.{right_of};
 ghost use Rattle.service_parts.specs.Serving.{IsServed};
 
 use apex_types::{Errno, FileNode, OpenMode, PartitionId, Reply, Spot, Table, Values};
+use memory_store::Trees;
 use open_handles::Handles;
 use service_parts::{Right, place_of, refusal, success};
-use tree_store::Trees;
 
 /// The right that opening a file in a mode needs.
 fn right_for(mode: OpenMode) -> Right

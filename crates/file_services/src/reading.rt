@@ -9,10 +9,10 @@ ghost use Rattle.store_model.specs.Stores.{kept_at};
 ghost use Rattle.service_parts.specs.Serving.{AreStanding, IsServed};
 
 use apex_types::{Bytes, Errno, FileHandle, FileNode, PartitionId, Reply, StepFault, Values};
+use memory_store::{TreeStore, Trees};
 use open_handles::Handles;
 use rig_core::Rig;
 use service_parts::{bytes_of, refusal, success};
-use tree_store::{TreeStore, Trees};
 
 /// The size, position and change count of an open file.
 pub fn get_file_status(trees: &Trees, handles: &Handles, p: PartitionId, id: u32) -> Reply

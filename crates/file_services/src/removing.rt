@@ -13,10 +13,10 @@ ghost use Rattle.service_parts.specs.Places.{model_place};
 ghost use Rattle.service_parts.specs.Serving.{IsServed};
 
 use apex_types::{Errno, FileNode, PartitionId, Reply, Spot, StepFault, Table, Values};
+use memory_store::Trees;
 use open_handles::Handles;
 use rig_core::Rig;
 use service_parts::{Place, Right, place_of, refusal, success};
-use tree_store::Trees;
 
 /// Removes a file of which the caller has no handle. The handles of others are stale then.
 fn remove_closed<R: Rig>(

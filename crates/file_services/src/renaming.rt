@@ -12,10 +12,10 @@ ghost use Rattle.store_model.specs.Systems.{IsOfTable, store_at, file_path};
 ghost use Rattle.service_parts.specs.Serving.{IsServed};
 
 use apex_types::{DirNode, Errno, FileNode, PartitionId, Reply, Spot, StepFault, Table, Values};
+use memory_store::Trees;
 use open_handles::Handles;
 use rig_core::Rig;
 use service_parts::{Place, Right, last_name, place_of, refusal, success};
-use tree_store::Trees;
 
 /// Gives a file of which the caller has no handle another path, at which nothing stands.
 fn rename_closed<R: Rig>(

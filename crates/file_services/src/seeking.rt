@@ -4,9 +4,9 @@ ghost use Rattle.apex_model.specs.FileStep.{seek_file as seek_step, base, within
 ghost use Rattle.service_parts.specs.Serving.{AreStanding, IsServed};
 
 use apex_types::{Errno, PartitionId, Reply, Values, Whence};
+use memory_store::Trees;
 use open_handles::Handles;
 use service_parts::{refusal, success};
-use tree_store::Trees;
 
 /// What an offset counts from, at this position of a file of this size.
 fn base_of(whence: Whence, position: u32, size: u32) -> u32

@@ -7,8 +7,8 @@ ghost use Rattle.open_handles.specs.NodeHandles.{AllHandles};
 ghost use Rattle.service_parts.specs.Serving.{IsServed};
 
 use apex_types::{Errno, PartitionId, Reply, Table, Values};
+use memory_store::Trees;
 use service_parts::{Right, place_of, refusal, success};
-use tree_store::Trees;
 
 /// The quota, the charge and the number of files of the tree whose root is at a path.
 pub fn get_volume_status(table: &Table, trees: &Trees, p: PartitionId, path: &[u8]) -> Reply

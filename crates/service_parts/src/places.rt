@@ -9,7 +9,7 @@ ghost use Rattle.service_parts.specs.Places.{right_of, model_place};
 use apex_types::{Errno, Name, PartitionId, Path, PathNames, Table, TreeRow};
 
 /// Who may use a service: the owner of a tree alone, or also those who may read it.
-#[derive(Clone, Copy, Debug, PartialEq, Eq)]
+#[derive(Clone, Copy)]
 pub enum Right {
     Owner,
     OwnerOrReader,

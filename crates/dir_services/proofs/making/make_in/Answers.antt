@@ -10,7 +10,7 @@ use Rattle.file_tree.specs.Entries.{path_in, with_directory}
 use Rattle.file_tree.proofs.Children.{free-path}
 use Rattle.store_model.specs.Stores.{StoreValue, with_names}
 use Rattle.store_model.specs.Systems.{store_at}
-use Rattle.tree_store.specs.declared.refusal.StoreRefusal.TheVariants.{Refused}
+use Rattle.memory_store.specs.declared.refusal.StoreRefusal.TheVariants.{Refused}
 use Rattle.service_parts.specs.Places.{model_place}
 use Rattle.service_parts.proofs.Served.{served-as}
 use Rattle.dir_services.specs.Steps.{make_at}

@@ -9,7 +9,7 @@ use Rattle.file_tree.specs.Entries.{way_of, without_directory}
 use Rattle.open_handles.specs.NodeHandles.{with_directory_gone}
 use Rattle.store_model.specs.Stores.{with_names}
 use Rattle.store_model.specs.Systems.{store_at}
-use Rattle.tree_store.specs.declared.refusal.StoreRefusal.TheVariants.{Refused}
+use Rattle.memory_store.specs.declared.refusal.StoreRefusal.TheVariants.{Refused}
 use Rattle.service_parts.specs.Places.{model_place}
 use Rattle.service_parts.proofs.Served.{served-as}
 use Rattle.dir_services.proofs.PathLaws.{set-own, refused-reason}

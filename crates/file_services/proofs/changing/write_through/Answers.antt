@@ -4,8 +4,8 @@ use Rattle.apex_model.specs.Outcomes.{refusal}
 use Rattle.file_tree.specs.Entries.{slot}
 use Rattle.store_model.specs.Stores.{StoreValue, kept_at}
 use Rattle.store_model.proofs.SystemsFiles.{position-within, position-few}
-use Rattle.tree_store.specs.Refusals.{IsChange}
-use Rattle.tree_store.specs.declared.refusal.StoreRefusal.TheVariants.{Refused}
+use Rattle.memory_store.specs.Refusals.{IsChange}
+use Rattle.memory_store.specs.declared.refusal.StoreRefusal.TheVariants.{Refused}
 use Rattle.service_parts.proofs.Served.{served-new}
 use Rattle.file_services.proofs.Held.{held-within, held-used, moved-handles, same-stores}
 use Rattle.file_services.proofs.ChangingLaws.{write-refused, write-done}

@@ -10,6 +10,3 @@ mod trees;
 pub use refusal::StoreRefusal;
 pub use store::TreeStore;
 pub use trees::Trees;
-
-#[cfg(test)]
-mod tests;

@@ -3,8 +3,8 @@ use Rattle.std.specs.Prelude.{◌≡◌, ◌<◌, ◌≤◌, ℕ, length, slice_
 use Rattle.apex_types.specs.declared.codes.Errno.{Errno}
 use Rattle.apex_model.specs.Files.{Content}
 use Rattle.store_model.specs.Stores.{StoreValue, kept_at, charge_with, total, change_refusal, changed_store}
-use Rattle.tree_store.specs.declared.refusal.StoreRefusal.{StoreRefusal}
-use Rattle.tree_store.specs.declared.refusal.StoreRefusal.TheVariants.{Refused, Device, Memory}
+use Rattle.memory_store.specs.declared.refusal.StoreRefusal.{StoreRefusal}
+use Rattle.memory_store.specs.declared.refusal.StoreRefusal.TheVariants.{Refused, Device, Memory}
 
 -- the file of an entry was to get a content: it has it, as one change, exactly where nothing speaks against it. Refused, the
 -- store is as it was; without memory nothing is known of it

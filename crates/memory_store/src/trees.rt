@@ -4,8 +4,8 @@ ghost use Rattle.std.specs.List.{AllZip};
 ghost use Rattle.std.specs.Borrow.{sem};
 ghost use Rattle.store_model.specs.Stores.{IsSound};
 ghost use Rattle.store_model.specs.Systems.{store_at, HasLimits};
-ghost use Rattle.tree_store.specs.Changes.{empty_of};
-ghost use Rattle.tree_store.specs.Lending.{LendsStore};
+ghost use Rattle.memory_store.specs.Changes.{empty_of};
+ghost use Rattle.memory_store.specs.Lending.{LendsStore};
 
 use crate::store::TreeStore;
 use apex_types::{OutOfMemory, Table};

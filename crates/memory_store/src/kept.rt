@@ -1,19 +1,23 @@
 // What is kept of one file.
 ghost use Rattle.std.specs.Prelude.{◌≡◌, ◌+◌, ◌<◌, ◌≤◌, length, OnOk, OnErr};
 ghost use Rattle.apex_model.specs.Files.{written, resized};
-ghost use Rattle.store_model.specs.Stores.{nothing_kept};
-ghost use Rattle.tree_store.specs.Changes.{changed_to};
+ghost use Rattle.store_model.specs.Stores.{nothing_kept, synchronised_kept};
+ghost use Rattle.memory_store.specs.Changes.{changed_to};
 
 use crate::bytes::{put, resize};
 use apex_types::OutOfMemory;
 use std::alloc::Global;
 use std::marker::Model;
+use std::snapshot::Snapshot;
 
 /// The present content of a file, and how often it was changed. It has at most 1,048,576 bytes.
+/// What is durable of it is for clauses alone: it takes no memory.
 #[derive(Drop)]
 pub struct Kept {
     content: Vec<u8>,
     changes: u32,
+    durable_content: Snapshot<Vec<u8>>,
+    durable_changes: Snapshot<u32>,
 }
 
 impl Model for Kept {
@@ -22,7 +26,11 @@ impl Model for Kept {
 
     ghost Value = { KeptFile };
 
-    ghost view = { λ k. record { content = k.content.items; changes = k.changes } };
+    ghost view = { λ k. record {
+      content = k.content.items;
+      changes = k.changes;
+      durable = record { content = k.durable_content.value.items; changes = k.durable_changes.value };
+    } };
 
     ghost invariant = { λ k. length k.content.items ≤ 1048576 };
 }
@@ -32,9 +40,13 @@ impl Kept {
     pub fn new(alloc: Global) -> Kept
         ensures { result ≡ nothing_kept }
     {
+        let content = Vec::new(alloc);
+        let changes = 0;
         Kept {
-            content: Vec::new(alloc),
-            changes: 0,
+            durable_content: Snapshot::of(&content),
+            durable_changes: Snapshot::of(&changes),
+            content,
+            changes,
         }
     }
 
@@ -68,6 +80,14 @@ impl Kept {
         put(&mut self.content, place as usize, bytes)?;
         self.changes += 1;
         Ok(())
+    }
+
+    /// The present content becomes what is durable.
+    pub fn synchronise(&mut self)
+        ensures { self.new ≡ synchronised_kept self.old }
+    {
+        self.durable_content = Snapshot::of(&self.content);
+        self.durable_changes = Snapshot::of(&self.changes);
     }
 
     /// Cuts the content to a size, or fills it up with zeros, as one change. Without memory it is as it was.

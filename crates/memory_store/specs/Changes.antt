@@ -6,7 +6,7 @@ use Rattle.store_model.specs.Stores.{KeptFile, StoreValue, empty_store, nothing_
 
 -- another content, as one change
 abbrev pub changed_to : KeptFile → Content → KeptFile
-changed_to kept content = record { content = content; changes = kept.changes + 1 }
+changed_to kept content = record { content = content; changes = kept.changes + 1; durable = kept.durable }
 
 -- nothing at all, within these limits: so many files and directories, and so many blocks
 abbrev pub nothing_in : ℕ → ℕ → ℕ → StoreValue

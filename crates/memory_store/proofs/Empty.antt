@@ -4,7 +4,7 @@ use Rattle.std.specs.List.{AllZip}
 use Rattle.std.proofs.lemmas.List.{length-replicate}
 use Rattle.apex_types.specs.declared.rows.TreeRow.{TreeRow}
 use Rattle.store_model.specs.Systems.{HasLimits}
-use Rattle.tree_store.specs.Changes.{empty_of}
+use Rattle.memory_store.specs.Changes.{empty_of}
 
 -- they have the limits that the table gives their trees
 pub limits-empty : (rows : List TreeRow) → AllZip HasLimits rows (map empty_of rows)

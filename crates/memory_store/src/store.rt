@@ -4,8 +4,8 @@ ghost use Rattle.apex_model.specs.Handles.{free_from};
 ghost use Rattle.apex_model.specs.Trees.{standing_at, entries_within};
 ghost use Rattle.file_tree.specs.Entries.{slot, way_of, path_in, with_file, with_directory, without_directory, with_file_at};
 ghost use Rattle.store_model.specs.Stores.{nothing_kept, kept_at, total, change_refusal, with_names, synchronised_store, removed_store, IsSound};
-ghost use Rattle.tree_store.specs.Changes.{nothing_in};
-ghost use Rattle.tree_store.specs.Refusals.{IsChange, IsRefusal, MayHave};
+ghost use Rattle.memory_store.specs.Changes.{nothing_in};
+ghost use Rattle.memory_store.specs.Refusals.{IsChange, IsRefusal, MayHave};
 
 use crate::bytes::copy_part;
 use crate::kept::Kept;
@@ -31,7 +31,7 @@ impl Model for TreeStore {
 
     ghost Value = { StoreValue };
 
-    ghost use Rattle.tree_store.specs.Invariant.{IsCovered};
+    ghost use Rattle.memory_store.specs.Invariant.{IsCovered};
 
     ghost view = { λ s. record { tree = s.tree; files = s.files.items; charges = s.charges.by_file; quota = s.charges.quota } };
 
@@ -202,7 +202,7 @@ impl TreeStore {
         Ok(())
     }
 
-    /// Synchronises a file: from then on it is charged for its present content alone.
+    /// Synchronises a file: from then on its present content is durable, and it is charged for that alone.
     pub fn sync<R: Rig>(&mut self, _rig: &mut R, file: FileNode) -> Result<(), DeviceFault>
         requires { IsSome (slot self.old.tree.files file.0) }
         ensures done { IsOk result }
@@ -210,7 +210,12 @@ impl TreeStore {
         ensures sound { IsSound self.new }
         ensures rig { _rig.new ≡ _rig.old }
     {
-        let size = self.files[file.0 as usize].size();
+        let kept = &mut self.files[file.0 as usize];
+        kept.synchronise();
+        let size = kept.size();
+        let changes = kept.changes();
+        self.tree.set_stored(file, size, changes);
+        self.tree.stand();
         self.charges.settle(file, blocks(size));
         Ok(())
     }

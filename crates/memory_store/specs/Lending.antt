@@ -2,8 +2,8 @@
 use Rattle.std.specs.Prelude.{ℕ, List, slice_set}
 use Rattle.std.specs.Borrow.{Lends, MutBor, Fml}
 use Rattle.store_model.specs.Stores.{StoreValue}
-use Rattle.tree_store.specs.contracts.store.TreeStore as store
-use Rattle.tree_store.specs.contracts.trees.Trees as trees
+use Rattle.memory_store.specs.contracts.store.TreeStore as store
+use Rattle.memory_store.specs.contracts.trees.Trees as trees
 
 -- the lent store ends in its place, and the others stay
 abbrev pub LendsStore : MutBor (List StoreValue) → ℕ → MutBor StoreValue → Fml

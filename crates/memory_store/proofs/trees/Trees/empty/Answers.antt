@@ -5,9 +5,9 @@ use Rattle.std.proofs.lemmas.Grind.{common_steps}
 use Rattle.std.proofs.lemmas.List.Elements.{All-push}
 use Rattle.store_model.specs.Stores.{StoreValue, IsSound}
 use Rattle.store_model.specs.Systems.{HasLimits}
-use Rattle.tree_store.specs.Changes.{empty_of}
-use Rattle.tree_store.proofs.Empty.{limits-empty}
-use Rattle.tree_store.proofs.trees.Trees.empty.Goals as goal
+use Rattle.memory_store.specs.Changes.{empty_of}
+use Rattle.memory_store.proofs.Empty.{limits-empty}
+use Rattle.memory_store.proofs.trees.Trees.empty.Goals as goal
 
 pub loop-row-preserved : goal.loop-row-preserved
 loop-row-preserved c =
