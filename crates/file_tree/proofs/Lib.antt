@@ -12,5 +12,6 @@ pub mod LeastNames
 pub mod Listing
 pub mod Paths
 pub mod PutBodies
+pub mod Spelled
 pub mod Ways
 pub mod Written

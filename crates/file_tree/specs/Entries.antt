@@ -1,6 +1,8 @@
 -- What callers see of a tree: what stands at each path, and the path of each entry.
-use Rattle.std.specs.Prelude.{◌≡◌, ℕ, zero, suc, ◌+◌, ◌≤◌, List, [], ◌∷◌, ◌++◌, length, Option, Some, None, replicate, unwrap_or, slice_index_or, slice_set}
+use Rattle.std.specs.Prelude.{◌≡◌, ℕ, zero, suc, ◌+◌, ◌≤◌, List, [], ◌∷◌, ◌++◌, length, Option, Some, None, replicate, unwrap_or, slice_index_or, slice_set, IsTrue}
+use Rattle.std.specs.List.{AllByRecursion}
 use Rattle.std.specs.FinMap.Entries.{put}
+use Rattle.apex_types.specs.Naming.{is_name}
 use Rattle.apex_types.specs.declared.fields.Spot.{Spot}
 use Rattle.apex_types.specs.declared.fields.Spot.TheVariants.{Free, File, Directory, Root}
 use Rattle.apex_model.specs.Trees.{Name, Node, directory, file, Tree, path_cmp, standing_at, with_node, without_node, next_entry}
@@ -114,3 +116,8 @@ pub record IsConsistent (v : TreeValue) : Type 0 where
   pub few : (a : Place) (path : List Name) → path_at v.files v.directories a ≡ Some path → length path ≤ 6
   pub parent : (a : Place) (path : List Name) → path_at v.files v.directories a ≡ Some path → standing_at v.nodes (parent_of path) ≡ Some directory
   pub stored : (f : ℕ) (path : List Name) → slot v.files f ≡ Some path → slot v.stored f ≡ Some (stored_of v f)
+
+-- each path of a tree has names that are spelled as names
+abbrev pub AreSpelled : TreeValue → Type 0
+AreSpelled v = (a : Place) (path : List Name) → path_at v.files v.directories a ≡ Some path
+    → AllByRecursion (λ name. IsTrue (is_name name)) path

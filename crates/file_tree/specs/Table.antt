@@ -1,6 +1,7 @@
 -- Entries with a parent, a name and what is stored of them, and the paths that they stand for.
-use Rattle.std.specs.Prelude.{◌≡◌, ℕ, zero, suc, Bool, false, ◌≤◌, ◌&&◌, ◌==◌, List, [], ◌∷◌, ◌++◌, length, map, Option, Some, None, option_map, IsSome, bytes_eq}
+use Rattle.std.specs.Prelude.{◌≡◌, ℕ, zero, suc, Bool, false, ◌≤◌, ◌&&◌, ◌==◌, List, [], ◌∷◌, ◌++◌, length, map, Option, Some, None, option_map, IsSome, IsTrue, bytes_eq}
 use Rattle.apex_model.specs.Trees.{Name}
+use Rattle.apex_types.specs.Naming.{is_name}
 use Rattle.apex_types.specs.declared.numbers.DirNode.{DirNode}
 use Rattle.file_tree.specs.declared.entries.Entry.{Entry}
 use Rattle.file_tree.specs.Entries.{TreeValue, slot, nodes_of, AreDistinct}
@@ -49,13 +50,27 @@ value_of files directories = record {
 abbrev pub HaveParents : List (Option Entry) → List (Option Entry) → Type 0
 HaveParents directories entries = (i : ℕ) (entry : Entry) → slot entries i ≡ Some entry → IsSome (way directories 5 entry.parent.0)
 
--- what holds of the entries of a tree
+-- what makes entries a tree
 pub record AreSound (files directories : List (Option Entry)) : Type 0 where
   pub few_files : length files ≤ 255
   pub few_directories : length directories ≤ 255
   pub file_parents : HaveParents directories files
   pub directory_parents : HaveParents directories directories
   pub distinct : AreDistinct (paths directories files) (paths directories directories)
+
+-- the name of an entry in use is spelled as a name
+abbrev pub HasName : Option Entry → Type 0
+HasName None = Unit {0}
+HasName (Some entry) = IsTrue (is_name entry.name)
+
+abbrev pub HaveNames : List (Option Entry) → Type 0
+HaveNames entries = (i : ℕ) → HasName (slot entries i)
+
+-- what holds of the entries that a tree keeps
+pub record AreKept (files directories : List (Option Entry)) : Type 0 where
+  pub sound : AreSound files directories
+  pub file_names : HaveNames files
+  pub directory_names : HaveNames directories
 
 -- whether a place has the entry of this name in this directory
 abbrev pub is_child : ℕ → Name → Option Entry → Bool

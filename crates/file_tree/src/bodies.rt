@@ -1,12 +1,12 @@
 // The entries of a tree in a slot's body.
-ghost use Rattle.std.specs.Prelude.{◌≡◌, ◌+◌, ◌*◌, ◌<◌, ◌≤◌, ℕ, length, take, drop, None, Some, option_map, slice_index, slice_set, MatchBool};
+ghost use Rattle.std.specs.Prelude.{◌≡◌, ◌+◌, ◌*◌, ◌<◌, ◌≤◌, ℕ, length, take, drop, None, Some, option_map, slice_index, slice_set, IfSome, MatchBool};
 ghost use Rattle.apex_model.specs.Fields.{header_of, entry_of_bytes};
 ghost use Rattle.apex_model.specs.Image.{entry_bytes, directory_entry};
 ghost use Rattle.file_tree.specs.Bodies.{entry_of, entry_by, entries_in, file_entry, tree_in_body};
 ghost use Rattle.file_tree.specs.Checks.{kept};
 ghost use Rattle.file_tree.specs.Entries.{slot};
 ghost use Rattle.file_tree.specs.Images.{named, named_entry};
-ghost use Rattle.file_tree.specs.Table.{value_of, AreSound};
+ghost use Rattle.file_tree.specs.Table.{value_of, HasName, HaveNames, AreKept};
 
 use crate::checks::are_sound;
 use crate::entries::Entry;
@@ -18,7 +18,8 @@ use image_format::{body_header, entry_at, put_body_header, put_entry};
 /// The entry of a file that a field gives: of an unused one there is none, and a size over 1,048,576 bytes
 /// gives no answer.
 fn file_of(field: FileEntryField) -> Option<Option<Entry>>
-    ensures { result ≡ option_map (option_map named_entry) (file_entry field) }
+    ensures entry { result ≡ option_map (option_map named_entry) (file_entry field) }
+    ensures name { IfSome result HasName }
 {
     match field {
         FileEntryField::Unused => Some(None),
@@ -31,11 +32,7 @@ fn file_of(field: FileEntryField) -> Option<Option<Entry>>
             if size > 1048576 {
                 return None;
             }
-            Some(Some(Entry {
-                parent,
-                name,
-                stored: Stored::new(size, changes),
-            }))
+            Some(Some(Entry::new(parent, name, Stored::new(size, changes))))
         }
     }
 }
@@ -43,7 +40,8 @@ fn file_of(field: FileEntryField) -> Option<Option<Entry>>
 /// The entry of a directory that a field gives: of an unused one there is none, and a size or a change count
 /// gives no answer.
 fn directory_of(field: FileEntryField) -> Option<Option<Entry>>
-    ensures { result ≡ option_map (option_map named_entry) (directory_entry field) }
+    ensures entry { result ≡ option_map (option_map named_entry) (directory_entry field) }
+    ensures name { IfSome result HasName }
 {
     match field {
         FileEntryField::Unused => Some(None),
@@ -59,11 +57,7 @@ fn directory_of(field: FileEntryField) -> Option<Option<Entry>>
             if changes != 0 {
                 return None;
             }
-            Some(Some(Entry {
-                parent,
-                name,
-                stored: Stored::nothing(),
-            }))
+            Some(Some(Entry::new(parent, name, Stored::nothing())))
         }
     }
 }
@@ -71,7 +65,8 @@ fn directory_of(field: FileEntryField) -> Option<Option<Entry>>
 /// The entry of a number in a body of a version, if it is spelled.
 fn read_entry(kind: Kind, body: &[u8], version: u8, k: usize) -> Option<Option<Entry>>
     requires { 64 + 128 * k + 128 ≤ length body.now }
-    ensures { result ≡ option_map (option_map named_entry) (entry_by kind (entry_of_bytes version (entry_bytes body.now k))) }
+    ensures entry { result ≡ option_map (option_map named_entry) (entry_by kind (entry_of_bytes version (entry_bytes body.now k))) }
+    ensures name { IfSome result HasName }
 {
     let at = 64 + 128 * k;
     let Some(field) = entry_at(&body[at..at + 128], version) else {
@@ -92,7 +87,8 @@ fn read_entries(
     start: usize,
 ) -> bool
     requires { 64 + 128 * (start + length entries.old) ≤ length body.now }
-    ensures { MatchBool result (option_map named (entries_in kind version body.now start (length entries.old)) ≡ Some entries.new) (entries_in kind version body.now start (length entries.old) ≡ None) }
+    ensures entries { MatchBool result (option_map named (entries_in kind version body.now start (length entries.old)) ≡ Some entries.new) (entries_in kind version body.now start (length entries.old) ≡ None) }
+    ensures names { MatchBool result (HaveNames entries.new) (Unit {0}) }
 {
     for k in 0..entries.len() {
         let Some(entry) = read_entry(kind, body, version, start + k) else {
@@ -113,7 +109,7 @@ pub fn read_tables(
     requires long { 64 + 128 * (length files.old + length directories.old) ≤ length body.now }
     requires files { length files.old ≤ 255 }
     requires directories { length directories.old ≤ 255 }
-    ensures sound { MatchBool result (AreSound files.new directories.new) (Unit {0}) }
+    ensures kept { MatchBool result (AreKept files.new directories.new) (Unit {0}) }
     ensures tree { MatchBool result (tree_in_body (length files.old) (length directories.old) body.now ≡ Some (value_of files.new directories.new)) (tree_in_body (length files.old) (length directories.old) body.now ≡ None) }
 {
     let Some((_, version)) = body_header(&body[..64]) else {

@@ -1,4 +1,5 @@
-ghost use Rattle.std.specs.Prelude.{◌≡◌, ◌<◌, ◌≤◌, length, replicate, None, IfOk, IfSome, position, count_by, is_some, option_map, slice_set};
+ghost use Rattle.std.specs.Prelude.{◌≡◌, ◌<◌, ◌≤◌, length, replicate, None, IfOk, IfSome, IsTrue, position, count_by, is_some, option_map, slice_set};
+ghost use Rattle.apex_types.specs.Naming.{is_name};
 ghost use Rattle.file_tree.specs.Table.{stored_at as stored_at_place, entry_with};
 ghost use Rattle.file_tree.specs.Entries.{slot};
 ghost use Rattle.apex_model.specs.Handles.{free_from};
@@ -14,6 +15,21 @@ pub struct Entry {
     pub parent: DirNode,
     pub name: Name,
     pub stored: Stored,
+}
+
+impl Entry {
+    /// An entry of this name in a directory, of which this is stored.
+    pub fn new(parent: DirNode, name: Name, stored: Stored) -> Entry
+        ensures value { result ≡ record { parent = parent; name = name; stored = stored } }
+        ensures name { IsTrue (is_name name) }
+    {
+        let _bytes = name.bytes();
+        Entry {
+            parent,
+            name,
+            stored,
+        }
+    }
 }
 
 /// So many unused entries.

@@ -1,7 +1,7 @@
 ghost use Rattle.std.specs.Prelude.{◌≡◌, ◌+◌, ◌-◌, ◌*◌, ◌<◌, ◌≤◌, ◌≢◌, ℕ, [], length, take, drop, slice_index, slice_set, unwrap_or, None, Some, IsSome, IfOk, IfErr, IfSome, IfNone, MatchResult};
 ghost use Rattle.apex_model.specs.Handles.{free_from};
 ghost use Rattle.apex_model.specs.Trees.{standing_at, walk, entries_within, file_count};
-ghost use Rattle.file_tree.specs.Entries.{slot, way_of, path_in, no_entries, stored_of, with_stored, with_file, with_directory, without_file, without_directory, with_file_at, IsSpotAt, IsNextSpot, IsConsistent};
+ghost use Rattle.file_tree.specs.Entries.{slot, way_of, path_in, no_entries, stored_of, with_stored, with_file, with_directory, without_file, without_directory, with_file_at, IsSpotAt, IsNextSpot, IsConsistent, AreSpelled};
 ghost use Rattle.apex_model.specs.Fields.{header_of};
 ghost use Rattle.file_tree.specs.Bodies.{tree_in_body, IsReadTree};
 ghost use Rattle.file_tree.specs.Children.{IsChildAt};
@@ -33,11 +33,11 @@ impl Model for Tree {
 
     ghost Value = { TreeValue };
 
-    ghost use Rattle.file_tree.specs.Table.{value_of, AreSound};
+    ghost use Rattle.file_tree.specs.Table.{value_of, AreKept};
 
     ghost view = { λ t. value_of t.files.items t.directories.items };
 
-    ghost invariant = { λ t. AreSound t.files.items t.directories.items };
+    ghost invariant = { λ t. AreKept t.files.items t.directories.items };
 }
 
 impl Tree {
@@ -61,7 +61,8 @@ impl Tree {
 
     /// What holds of every tree; a caller learns it here.
     pub fn stand(&self)
-        ensures { IsConsistent self.now }
+        ensures consistent { IsConsistent self.now }
+        ensures spelled { AreSpelled self.now }
     {
         let _files = &self.files;
     }
@@ -155,11 +156,7 @@ impl Tree {
         let Some(k) = free_place(&self.files) else {
             return Err(Errno::Enospc);
         };
-        self.files[k] = Some(Entry {
-            parent,
-            name,
-            stored: Stored::nothing(),
-        });
+        self.files[k] = Some(Entry::new(parent, name, Stored::nothing()));
         Ok(FileNode(k as u8))
     }
 
@@ -175,11 +172,7 @@ impl Tree {
         let Some(k) = free_place(&self.directories) else {
             return Err(Errno::Enospc);
         };
-        self.directories[k] = Some(Entry {
-            parent,
-            name,
-            stored: Stored::nothing(),
-        });
+        self.directories[k] = Some(Entry::new(parent, name, Stored::nothing()));
         Ok(DirNode(k as u8 + 1))
     }
 
@@ -200,11 +193,7 @@ impl Tree {
         ensures { IfSome (slot self.old.files file.0) (λ path. self.new ≡ with_file_at self.old file.0 path (path_in self.old parent.0 name)) }
     {
         let stored = stored_at(&self.files, file.0 as usize);
-        self.files[file.0 as usize] = Some(Entry {
-            parent,
-            name,
-            stored,
-        });
+        self.files[file.0 as usize] = Some(Entry::new(parent, name, stored));
     }
 
     /// The size in bytes and the change count that the durable body has of a file: both are 0 where the entry isn't
@@ -325,11 +314,7 @@ impl Tree {
         if !self.takes(parent, name) {
             return false;
         }
-        self.files[index as usize] = Some(Entry {
-            parent,
-            name: name.copy(),
-            stored: Stored::nothing(),
-        });
+        self.files[index as usize] = Some(Entry::new(parent, name.copy(), Stored::nothing()));
         true
     }
 
@@ -346,11 +331,7 @@ impl Tree {
         if !self.takes(parent, name) {
             return false;
         }
-        self.directories[index as usize] = Some(Entry {
-            parent,
-            name: name.copy(),
-            stored: Stored::nothing(),
-        });
+        self.directories[index as usize] = Some(Entry::new(parent, name.copy(), Stored::nothing()));
         true
     }
 

@@ -17,14 +17,14 @@ body_header-requires c = length-take-le 64 c.args.body.now (omega (arith, c.requ
 pub returns-then-not-read_entries-clause-tree : goal.returns-then-not-read_entries-clause-tree
 returns-then-not-read_entries-clause-tree c =
     ap (λ (o : Option (ℕ × ℕ)). tree_by o (length c.args.files.now) (length c.args.directories.now) c.args.body.now) (sym c.in-Some.ensures)
-    ∙ no-files c.in-Some.version (length c.args.files.now) (length c.args.directories.now) c.args.body.now c.if-not-read_entries.ensures
+    ∙ no-files c.in-Some.version (length c.args.files.now) (length c.args.directories.now) c.args.body.now c.if-not-read_entries.ensures.entries
 
 pub returns-then-not-read_entries-2-clause-tree : goal.returns-then-not-read_entries-2-clause-tree
 returns-then-not-read_entries-2-clause-tree c =
     let same : length c.read_entries.new.entries ≡ length c.args.files.now = search arith in
     ap (λ (o : Option (ℕ × ℕ)). tree_by o (length c.args.files.now) (length c.args.directories.now) c.args.body.now) (sym c.in-Some.ensures)
     ∙ no-directories c.in-Some.version (length c.args.files.now) (length c.args.directories.now) c.args.body.now
-    (ap (λ n. entries_in Directory c.in-Some.version c.args.body.now n (length c.args.directories.now)) (sym same) ∙ c.if-not-read_entries-2.ensures)
+    (ap (λ n. entries_in Directory c.in-Some.version c.args.body.now n (length c.args.directories.now)) (sym same) ∙ c.if-not-read_entries-2.ensures.entries)
 
 pub returns-clause-tree : goal.returns-clause-tree
 returns-clause-tree c =
@@ -33,6 +33,6 @@ returns-clause-tree c =
     subst (λ (o : Option (ℕ × ℕ)). MatchBool c.are_sound.result
     (tree_by o (length c.args.files.now) (length c.args.directories.now) c.args.body.now ≡ Some (value_of c.read_entries.new.entries c.read_entries-2.new.entries))
     (tree_by o (length c.args.files.now) (length c.args.directories.now) c.args.body.now ≡ None)) c.in-Some.ensures
-    (tree-tested c.in-Some.version (length c.args.files.now) (length c.args.directories.now) c.args.body.now c.read_entries.new.entries c.read_entries-2.new.entries c.if-not-read_entries.ensures
-    (ap (λ n. option_map named (entries_in Directory c.in-Some.version c.args.body.now n (length c.args.directories.now))) (sym same) ∙ c.if-not-read_entries-2.ensures)
+    (tree-tested c.in-Some.version (length c.args.files.now) (length c.args.directories.now) c.args.body.now c.read_entries.new.entries c.read_entries-2.new.entries c.if-not-read_entries.ensures.entries
+    (ap (λ n. option_map named (entries_in Directory c.in-Some.version c.args.body.now n (length c.args.directories.now))) (sym same) ∙ c.if-not-read_entries-2.ensures.entries)
     (omega (arith, same, c.requires.files)) (omega (arith, alike, c.requires.directories)) c.are_sound.result c.are_sound.ensures)

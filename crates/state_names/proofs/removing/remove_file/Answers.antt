@@ -17,7 +17,7 @@ remove_file_name-requires-clause-tail g c = c.deref.ensures.value ∙ c.requires
 
 pub returns-in-Err-clause-step : goal.returns-in-Err-clause-step
 returns-in-Err-clause-step g c = λ path there.
-    gone-step g.R.Rig.tells_view c.args.row.now c.args.at (g.R.Rig.state c.args.rig.now) (g.R.Rig.state c.remove_file_name.new.rig) c.args.state.now c.args.file path c.stand.ensures there
+    gone-step g.R.Rig.tells_view c.args.row.now c.args.at (g.R.Rig.state c.args.rig.now) (g.R.Rig.state c.remove_file_name.new.rig) c.args.state.now c.args.file path c.stand.ensures.consistent there
     (record {
       any_moment = c.remove_file_name.ensures.any_moment path there;
       shown = c.remove_file_name.ensures.shown path there;
@@ -34,7 +34,7 @@ returns-in-Err-clause-contents g c = λ tells other differs.
 
 pub returns-in-Ok-true-clause-step : goal.returns-in-Ok-true-clause-step
 returns-in-Ok-true-clause-step g c = λ path there.
-    gone-step g.R.Rig.tells_view c.args.row.now c.args.at (g.R.Rig.state c.args.rig.now) (g.R.Rig.state c.remove_file_name.new.rig) c.args.state.now c.args.file path c.stand.ensures there
+    gone-step g.R.Rig.tells_view c.args.row.now c.args.at (g.R.Rig.state c.args.rig.now) (g.R.Rig.state c.remove_file_name.new.rig) c.args.state.now c.args.file path c.stand.ensures.consistent there
     (record {
       any_moment = c.remove_file_name.ensures.any_moment path there;
       shown = c.remove_file_name.ensures.shown path there;
@@ -60,7 +60,7 @@ returns-in-Ok-true-clause-durable g c = λ path there tells.
     let old = (g.R.Rig.state c.args.rig.now).view in
     let now = (g.R.Rig.state c.remove_file_name.new.rig).view in
     tree-gone g.R.Rig.tells_view c.args.row.now c.args.at (g.R.Rig.state c.args.rig.now) (g.R.Rig.state c.remove_file_name.new.rig) c.args.state.now (record c.args.state.now { kept = c.remove_file_name.new.kept }) c.requires.state c.args.file path
-    there (some-same (gone_file v f) c.remove_file_name.new.kept.tree (without_file v f path) made (is-gone v f path there)) c.remove_file_name.ensures.others c.stand.ensures old now
+    there (some-same (gone_file v f) c.remove_file_name.new.kept.tree (without_file v f path) made (is-gone v f path there)) c.remove_file_name.ensures.others c.stand.ensures.consistent old now
     (data-stays c.args.row.now c.args.at old now (c.remove_file_name.ensures.outside_view tells))
 
 pub returns-in-Ok-true-clause-state : goal.returns-in-Ok-true-clause-state

@@ -45,4 +45,4 @@ returns-clause-durable g c = λ from is tells.
 
 pub returns-clause-stands : goal.returns-clause-stands
 returns-clause-stands g c = λ from is.
-    file-stands (data_at c.args.row.now c.args.at (g.R.Rig.state c.args.rig.now).view) c.args.state.now.kept.table.files.items c.args.state.now.kept.tree c.stand.ensures c.args.file.0 from is
+    file-stands (data_at c.args.row.now c.args.at (g.R.Rig.state c.args.rig.now).view) c.args.state.now.kept.table.files.items c.args.state.now.kept.tree c.stand.ensures.consistent c.args.file.0 from is

@@ -28,7 +28,7 @@ store_file-requires-clause-good g c =
     let s = c.args.state.now in
     let known = present-numbered g.R.Rig.tells_view c.args.row.now c.args.at (g.R.Rig.state c.args.rig.now) s c.requires.state c.args.file.0 c.requires.in_use in
     let list_is = get_or_read s.present.numbers.items c.args.file.0 c.index-numbers.result.now known c.index-numbers.ensures [] in
-    let entry = entry-stored s.kept.tree c.stand.ensures c.args.file.0 c.requires.in_use in
+    let entry = entry-stored s.kept.tree c.stand.ensures.consistent c.args.file.0 c.requires.in_use in
     good-known g.R.Rig.tells_view c.args.row.now c.args.at (g.R.Rig.state c.args.rig.now) s c.requires.state c.args.file.0 c.requires.in_use entry c.present_size-stored.result.size c.present_size-stored.result.changes
     c.index-numbers.result.now c.present_size-stored.ensures.size c.present_size-stored.ensures.changes list_is
 
@@ -41,7 +41,7 @@ returns-in_err-store_file-clause-any_moment g c = λ path there tells.
     let durable = numbered g.R.Rig.tells_view c.args.row.now c.args.at o s c.requires.state c.args.file.0 c.requires.in_use in
     leaves_weaker _ (IsEither c.args.row.now c.args.at o.view s c.args.file path) o (g.R.Rig.state c.store_file.new.rig)
     (either-stored c.args.row.now c.args.at o.view s c.args.file c.present_size-stored.result.size c.present_size-stored.result.changes c.index-numbers.result.now c.present_size-stored.ensures.size
-    c.present_size-stored.ensures.changes list_is c.stand.ensures durable c.requires.none path there)
+    c.present_size-stored.ensures.changes list_is c.stand.ensures.consistent durable c.requires.none path there)
     (c.store_file.ensures.any_moment tells)
 
 pub returns-in_err-store_file-clause-shown : goal.returns-in_err-store_file-clause-shown
@@ -52,7 +52,7 @@ returns-in_err-store_file-clause-shown g c = λ path there tells.
     let list_is = get_or_read s.present.numbers.items c.args.file.0 c.index-numbers.result.now known c.index-numbers.ensures [] in
     let durable = numbered g.R.Rig.tells_view c.args.row.now c.args.at o s c.requires.state c.args.file.0 c.requires.in_use in
     either-stored c.args.row.now c.args.at o.view s c.args.file c.present_size-stored.result.size c.present_size-stored.result.changes c.index-numbers.result.now c.present_size-stored.ensures.size
-    c.present_size-stored.ensures.changes list_is c.stand.ensures durable c.requires.none path there (g.R.Rig.state c.store_file.new.rig).view (c.store_file.ensures.shown tells)
+    c.present_size-stored.ensures.changes list_is c.stand.ensures.consistent durable c.requires.none path there (g.R.Rig.state c.store_file.new.rig).view (c.store_file.ensures.shown tells)
 
 pub returns-clause-any_moment : goal.returns-clause-any_moment
 returns-clause-any_moment g c = λ path there tells.
@@ -63,7 +63,7 @@ returns-clause-any_moment g c = λ path there tells.
     let durable = numbered g.R.Rig.tells_view c.args.row.now c.args.at o s c.requires.state c.args.file.0 c.requires.in_use in
     leaves_weaker _ (IsEither c.args.row.now c.args.at o.view s c.args.file path) o (g.R.Rig.state c.store_file.new.rig)
     (either-stored c.args.row.now c.args.at o.view s c.args.file c.present_size-stored.result.size c.present_size-stored.result.changes c.index-numbers.result.now c.present_size-stored.ensures.size
-    c.present_size-stored.ensures.changes list_is c.stand.ensures durable c.requires.none path there)
+    c.present_size-stored.ensures.changes list_is c.stand.ensures.consistent durable c.requires.none path there)
     (c.store_file.ensures.any_moment tells)
 
 pub returns-clause-shown : goal.returns-clause-shown
@@ -74,7 +74,7 @@ returns-clause-shown g c = λ path there tells.
     let list_is = get_or_read s.present.numbers.items c.args.file.0 c.index-numbers.result.now known c.index-numbers.ensures [] in
     let durable = numbered g.R.Rig.tells_view c.args.row.now c.args.at o s c.requires.state c.args.file.0 c.requires.in_use in
     either-stored c.args.row.now c.args.at o.view s c.args.file c.present_size-stored.result.size c.present_size-stored.result.changes c.index-numbers.result.now c.present_size-stored.ensures.size
-    c.present_size-stored.ensures.changes list_is c.stand.ensures durable c.requires.none path there (g.R.Rig.state c.store_file.new.rig).view (c.store_file.ensures.shown tells)
+    c.present_size-stored.ensures.changes list_is c.stand.ensures.consistent durable c.requires.none path there (g.R.Rig.state c.store_file.new.rig).view (c.store_file.ensures.shown tells)
 
 pub returns-clause-state : goal.returns-clause-state
 returns-clause-state g c =
@@ -84,7 +84,7 @@ returns-clause-state g c =
     let known = present-numbered g.R.Rig.tells_view c.args.row.now c.args.at o s c.requires.state f c.requires.in_use in
     let list_is = get_or_read s.present.numbers.items f c.index-numbers.result.now known c.index-numbers.ensures [] in
     let sizes = c.present_size-stored.ensures in
-    let entry = entry-stored s.kept.tree c.stand.ensures f c.requires.in_use in
+    let entry = entry-stored s.kept.tree c.stand.ensures.consistent f c.requires.in_use in
     let blocks : c.div_ceil.result ≡ blocks_of (size_of s.present c.args.file) = omega (arith, c.div_ceil.ensures, sizes.size) in
     new-state g.R.Rig.tells_view c.args.row.now c.args.at o s c.requires.state f c.requires.in_use entry (g.R.Rig.state c.store_file.new.rig) _ c.in_ok-store_file.ensures.in_step
     (c.in_ok-store_file.ensures.tree ∙ (λ i. with_stored s.kept.tree f (sizes.size i) (sizes.changes i)))
@@ -101,7 +101,7 @@ returns-clause-synchronised g c = λ path there tells.
     let list_is = get_or_read s.present.numbers.items c.args.file.0 c.index-numbers.result.now known c.index-numbers.ensures [] in
     let durable = numbered g.R.Rig.tells_view c.args.row.now c.args.at o s c.requires.state c.args.file.0 c.requires.in_use in
     durable-now c.args.row.now c.args.at o.view s c.args.file c.present_size-stored.result.size c.present_size-stored.result.changes c.index-numbers.result.now c.present_size-stored.ensures.size
-    c.present_size-stored.ensures.changes list_is c.stand.ensures durable c.requires.none path there view _ _ (same-data c.args.row.now c.args.at o.view view (c.in_ok-store_file.ensures.outside_view tells)) c.in_ok-store_file.ensures.tree
+    c.present_size-stored.ensures.changes list_is c.stand.ensures.consistent durable c.requires.none path there view _ _ (same-data c.args.row.now c.args.at o.view view (c.in_ok-store_file.ensures.outside_view tells)) c.in_ok-store_file.ensures.tree
     c.in_ok-store_file.ensures.files
 
 pub returns-clause-contents : goal.returns-clause-contents

@@ -7,7 +7,7 @@ use Rattle.file_tree.proofs.tree.Tree.drop_directory.Goals as goal
 
 pub returns-then-not-is_used : goal.returns-then-not-is_used
 returns-then-not-is_used c = (
-  no-gone_directory c.args.self.now c.args.index (directories-used c.self.inside.files.items c.self.inside.directories.items c.args.self.now c.self.view_is c.self.invariant c.args.index
+  no-gone_directory c.args.self.now c.args.index (directories-used c.self.inside.files.items c.self.inside.directories.items c.args.self.now c.self.view_is c.self.invariant.sound c.args.index
       ∙ ap (λ (xs : List (Option Entry)). is_some (slot xs c.args.index)) (sym c.deref.ensures.value) ∙ sym c.is_used.ensures ∙ c.if-not-is_used.true),
   refl,
 )
@@ -16,14 +16,14 @@ pub remove_dir-requires-clause-in_use : goal.remove_dir-requires-clause-in_use
 remove_dir-requires-clause-in_use c =
     let number : c.args.index + 1 ≡ suc c.args.index = omega arith in
     ap (λ n. is_some (way_of c.args.self.now n)) number
-    ∙ directories-used c.self.inside.files.items c.self.inside.directories.items c.args.self.now c.self.view_is c.self.invariant c.args.index
+    ∙ directories-used c.self.inside.files.items c.self.inside.directories.items c.args.self.now c.self.view_is c.self.invariant.sound c.args.index
     ∙ ap (λ (xs : List (Option Entry)). is_some (slot xs c.args.index)) (sym c.deref.ensures.value) ∙ sym c.is_used.ensures ∙ c.if-not-is_used.false
 
 pub returns-in-Ok : goal.returns-in-Ok
 returns-in-Ok c =
     let number : c.args.index + 1 ≡ suc c.args.index = omega arith in
     one-gone_directory c.args.self.now c.remove_dir.new.self c.args.index (c.args.index + 1) number
-    (directories-used c.self.inside.files.items c.self.inside.directories.items c.args.self.now c.self.view_is c.self.invariant c.args.index
+    (directories-used c.self.inside.files.items c.self.inside.directories.items c.args.self.now c.self.view_is c.self.invariant.sound c.args.index
     ∙ ap (λ (xs : List (Option Entry)). is_some (slot xs c.args.index)) (sym c.deref.ensures.value) ∙ sym c.is_used.ensures ∙ c.if-not-is_used.false)
     c.in-Ok.ensures.removed.0 c.in-Ok.ensures.removed.1
 

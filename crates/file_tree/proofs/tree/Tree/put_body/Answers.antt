@@ -45,7 +45,7 @@ module _ (c : goal.After-slice_known-4-1) where
   tree sequence few =
       let files = c.self.inside.files.items in
       let directories = c.self.inside.directories.items in
-      tree-put files directories c.args.self.now (set c.put_entries-2.new.body 0 sequence) sequence c.self.view_is c.self.invariant (header sequence few)
+      tree-put files directories c.args.self.now (set c.put_entries-2.new.body 0 sequence) sequence c.self.view_is c.self.invariant.sound (header sequence few)
       (files-there c.put_entries.new.body c.put_entries-2.new.body files sequence
       (subst (λ (xs : List (Option Entry)). (k : ℕ) → k < length xs → read_at File c.put_entries.new.body (0 + k) ≡ Some (kept File (slot xs k))) c.deref.ensures.value c.put_entries.ensures.entries) front)
       (directories-there c.put_entries-2.new.body (length files) directories sequence

@@ -4,9 +4,10 @@ use Rattle.std.proofs.lemmas.List.{with_items_is, length-replicate}
 use Rattle.file_tree.specs.declared.entries.Entry.{Entry}
 use Rattle.file_tree.specs.Bodies.{tree_in_body}
 use Rattle.file_tree.specs.Entries.{TreeValue}
-use Rattle.file_tree.specs.Table.{value_of, AreSound}
+use Rattle.file_tree.specs.Table.{value_of, AreKept}
 use Rattle.file_tree.proofs.Changes.{nothing_stands}
 use Rattle.file_tree.proofs.PutBodies.{file-count, directory-count}
+use Rattle.file_tree.proofs.Spelled.{names-none}
 use Rattle.file_tree.proofs.tree.Tree.read_body.Goals as goal
 
 pub read_tables-requires-clause-long : goal.read_tables-requires-clause-long
@@ -27,10 +28,10 @@ returns-then-read_tables-clause-tree c =
 
 module _ (c : goal.After-self-4-1) where
   few-files : length c.args.self.now.files ≤ 255
-  few-files = subst (λ n. n ≤ 255) (sym (file-count c.self.inside.files.items c.self.inside.directories.items c.args.self.now c.self.view_is)) c.self.invariant.few_files
+  few-files = subst (λ n. n ≤ 255) (sym (file-count c.self.inside.files.items c.self.inside.directories.items c.args.self.now c.self.view_is)) c.self.invariant.sound.few_files
 
   few-directories : length c.args.self.now.directories ≤ 255
-  few-directories = subst (λ n. n ≤ 255) (sym (directory-count c.self.inside.files.items c.self.inside.directories.items c.args.self.now c.self.view_is)) c.self.invariant.few_directories
+  few-directories = subst (λ n. n ≤ 255) (sym (directory-count c.self.inside.files.items c.self.inside.directories.items c.args.self.now c.self.view_is)) c.self.invariant.sound.few_directories
 
   files-clear : (with_items (with_items c.self.inside.files c.read_tables.new.files) c.clear.new.entries).items ≡ replicate (length c.args.self.now.files) None
   files-clear =
@@ -50,9 +51,13 @@ module _ (c : goal.After-self-4-1) where
 
 pub invariant_of-self-2 : goal.invariant_of-self-2
 invariant_of-self-2 c =
-    subst (λ (xs : List (Option Entry)). AreSound xs (with_items (with_items c.self.inside.directories c.read_tables.new.directories) c.clear-2.new.entries).items) (sym (files-clear c))
-    (subst (λ (ys : List (Option Entry)). AreSound (replicate (length c.args.self.now.files) None) ys) (sym (directories-clear c))
-    (nothing_stands (length c.args.self.now.files) (length c.args.self.now.directories) (few-files c) (few-directories c)).sound)
+    subst (λ (xs : List (Option Entry)). AreKept xs (with_items (with_items c.self.inside.directories c.read_tables.new.directories) c.clear-2.new.entries).items) (sym (files-clear c))
+    (subst (λ (ys : List (Option Entry)). AreKept (replicate (length c.args.self.now.files) None) ys) (sym (directories-clear c))
+    (record {
+      sound = (nothing_stands (length c.args.self.now.files) (length c.args.self.now.directories) (few-files c) (few-directories c)).sound;
+      file_names = names-none (length c.args.self.now.files);
+      directory_names = names-none (length c.args.self.now.directories);
+    }))
 
 pub returns-clause-tree : goal.returns-clause-tree
 returns-clause-tree c = (

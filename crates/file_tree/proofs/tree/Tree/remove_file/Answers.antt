@@ -1,5 +1,6 @@
-use Rattle.std.proofs.Common.{◌<◌, subst, sym}
+use Rattle.std.proofs.Common.{◌<◌, None, subst, sym}
 use Rattle.file_tree.proofs.Changes.{files-within, removed_file, some_is, each_some}
+use Rattle.file_tree.proofs.Spelled.{names-set}
 use Rattle.file_tree.proofs.tree.Tree.remove_file.Goals as goal
 
 pub index_mut-requires : goal.index_mut-requires
@@ -8,8 +9,12 @@ index_mut-requires c = subst (λ n. c.args.file.0 < n) (sym c.self.inside.files.
 pub invariant_of-self : goal.invariant_of-self
 invariant_of-self c =
     let s = some_is _ c.requires in
-    (removed_file c.self.inside.files.items c.self.inside.directories.items c.args.self.now c.self.view_is c.self.invariant c.args.file.0 s.0 s.1).sound
+    record {
+      sound = (removed_file c.self.inside.files.items c.self.inside.directories.items c.args.self.now c.self.view_is c.self.invariant.sound c.args.file.0 s.0 s.1).sound;
+      file_names = names-set c.self.inside.files.items c.args.file.0 None c.self.invariant.file_names tt;
+      directory_names = c.self.invariant.directory_names;
+    }
 
 pub returns : goal.returns
 returns c = each_some _ _ (λ path was.
-    (removed_file c.self.inside.files.items c.self.inside.directories.items c.args.self.now c.self.view_is c.self.invariant c.args.file.0 path was).is)
+    (removed_file c.self.inside.files.items c.self.inside.directories.items c.args.self.now c.self.view_is c.self.invariant.sound c.args.file.0 path was).is)

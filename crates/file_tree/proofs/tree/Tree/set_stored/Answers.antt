@@ -4,8 +4,9 @@ use Rattle.std.specs.Vec.{with_items}
 use Rattle.std.proofs.lemmas.List.{with_items_is}
 use Rattle.file_tree.specs.declared.entries.Entry.{Entry}
 use Rattle.file_tree.specs.Entries.{slot}
-use Rattle.file_tree.specs.Table.{value_of, entry_with, AreSound}
+use Rattle.file_tree.specs.Table.{value_of, entry_with, AreKept}
 use Rattle.file_tree.proofs.Changes.{files-within, stored_changed}
+use Rattle.file_tree.proofs.Spelled.{names-set, name-with}
 use Rattle.file_tree.proofs.tree.Tree.set_stored.Goals as goal
 
 pub set_stored_at-requires : goal.set_stored_at-requires
@@ -20,10 +21,14 @@ files-are c =
 
 pub invariant_of-self : goal.invariant_of-self
 invariant_of-self c =
-    subst (λ (xs : List (Option Entry)). AreSound xs c.self.inside.directories.items) (sym (files-are c))
-    (stored_changed c.self.inside.files.items c.self.inside.directories.items c.args.self.now c.self.view_is c.self.invariant c.args.file.0 c.args.size c.args.changes c.requires.file).sound
+    subst (λ (xs : List (Option Entry)). AreKept xs c.self.inside.directories.items) (sym (files-are c)) (record {
+      sound = (stored_changed c.self.inside.files.items c.self.inside.directories.items c.args.self.now c.self.view_is c.self.invariant.sound c.args.file.0 c.args.size c.args.changes c.requires.file).sound;
+      file_names = names-set c.self.inside.files.items c.args.file.0 _ c.self.invariant.file_names
+          (name-with (c.args.size, c.args.changes) (slot c.self.inside.files.items c.args.file.0) (c.self.invariant.file_names c.args.file.0));
+      directory_names = c.self.invariant.directory_names;
+    })
 
 pub returns : goal.returns
 returns c =
     ap (λ (xs : List (Option Entry)). value_of xs c.self.inside.directories.items) (files-are c)
-    ∙ (stored_changed c.self.inside.files.items c.self.inside.directories.items c.args.self.now c.self.view_is c.self.invariant c.args.file.0 c.args.size c.args.changes c.requires.file).is
+    ∙ (stored_changed c.self.inside.files.items c.self.inside.directories.items c.args.self.now c.self.view_is c.self.invariant.sound c.args.file.0 c.args.size c.args.changes c.requires.file).is

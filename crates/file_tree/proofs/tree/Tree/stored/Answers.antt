@@ -13,4 +13,4 @@ pub returns-clause-fits : goal.returns-clause-fits
 returns-clause-fits c = subst (λ (st : ℕ × ℕ). st.0 ≤ 1048576) (c.stored_at.ensures ∙ ap (λ (xs : List (Option Entry)). stored_at (slot xs c.args.file.0)) c.deref.ensures.value ∙ sym (stored-seen _ _ _ c.self.view_is c.args.file.0)) c.both.ensures.fits
 
 pub returns-clause-unused : goal.returns-clause-unused
-returns-clause-unused c = λ none. stored-none _ _ _ c.self.view_is c.self.invariant c.args.file.0 none
+returns-clause-unused c = λ none. stored-none _ _ _ c.self.view_is c.self.invariant.sound c.args.file.0 none
