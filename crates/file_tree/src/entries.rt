@@ -38,7 +38,9 @@ pub fn unused_entries(alloc: Global, count: u8) -> Result<Vec<Option<Entry>>, Ou
 {
     let mut entries = Vec::new(alloc);
     for _ in 0..count {
-        entries.push(None).map_err(|_| OutOfMemory)?;
+        let Ok(()) = entries.push(None) else {
+            return Err(OutOfMemory);
+        };
     }
     Ok(entries)
 }

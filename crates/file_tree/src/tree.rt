@@ -390,6 +390,3 @@ impl Tree {
         }
     }
 }
-
-#[cfg(test)]
-mod tests;

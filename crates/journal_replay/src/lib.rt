@@ -59,6 +59,3 @@ pub fn replay<R: Rig>(
 pub fn replay_agrees_with_image()
     ensures { ReplayAgreesWithImage }
 {}
-
-#[cfg(test)]
-mod tests;

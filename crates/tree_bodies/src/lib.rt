@@ -6,6 +6,3 @@ mod numbers;
 mod writing;
 
 pub use writing::put_slot_body;
-
-#[cfg(test)]
-mod tests;

@@ -1,5 +1,5 @@
 -- The numbers that the newest slot's files have after its records are among those of its body.
-use Rattle.std.proofs.Common.{◌≡◌, ℕ, zero, suc, ◌+◌, ◌*◌, ◌≤◌, inl, inr, Bool, true, false, cond, List, [], ◌∷◌, length, take, drop, refl, sym, ap, subst, ◌∙◌, Option, Some, None}
+use Rattle.std.proofs.Common.{◌≡◌, ℕ, zero, suc, ◌+◌, ◌*◌, ◌≤◌, inl, inr, Bool, true, false, cond, List, [], ◌∷◌, length, take, drop, refl, ap, subst, ◌∙◌, Option, Some, None}
 use Rattle.std.specs.Prelude.{Contains, option_map, flat_map}
 use Rattle.std.specs.List.{range_with_len}
 use Rattle.apex_types.specs.declared.fields.FileEntryField.{FileEntryField}

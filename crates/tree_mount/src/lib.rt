@@ -17,6 +17,3 @@ pub use numbers::BlockNumbers;
 pub use region::TreeRegion;
 pub use stop::MountStop;
 pub use table::BlockTable;
-
-#[cfg(test)]
-mod tests;
