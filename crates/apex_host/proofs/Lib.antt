@@ -1,7 +1,8 @@
 pub mod Bounds
+pub mod Cuts
 pub mod Disks
+pub mod EndLaws
 pub mod Endings
-pub mod FormatEndings
 pub mod Offers
 pub mod Runs
 pub mod SourceReads

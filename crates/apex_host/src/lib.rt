@@ -4,6 +4,7 @@
 mod accepting;
 mod command;
 mod formatting;
+mod laws;
 mod lines;
 mod reading;
 mod running;
@@ -13,6 +14,11 @@ mod stops;
 mod telling;
 mod top;
 
+pub use command::Command;
+pub use laws::{
+    carries_out, formats, formats_at_every_moment, refuses_scripts, refuses_small, refuses_tables,
+    statuses_mean, tells_usage,
+};
 pub use session::Session;
 pub use status::Status;
 pub use top::host;

@@ -1,15 +1,11 @@
 //! The lines of a script carried out one after the other, each reply told.
-ghost use Rattle.std.specs.Prelude.{◌≡◌, ◌++◌, ◌⊎◌, ◌≤◌, ◌<◌, ℕ, List, [], length, take, OnOk, Ok, Err};
+ghost use Rattle.std.specs.Prelude.{◌≡◌, ◌++◌, ℕ, List, take, OnOk, Ok, Err};
 ghost use Rattle.std.specs.List.{AllByRecursion};
-ghost use Rattle.apex_types.specs.Rows.{Rows};
 ghost use Rattle.apex_model.specs.Lines.{IsLineOf};
-ghost use Rattle.apex_model.specs.Run.{text_of, told_for};
 ghost use Rattle.apex_model.specs.World.{World, world_after};
-ghost use Rattle.rig_core.specs.Causes.{Rose};
-ghost use Rattle.rig_core.specs.Outside.{IsToldPart};
 ghost use Rattle.apex_host.specs.Disk.{OnlyTells};
 ghost use Rattle.apex_host.specs.Sessions.{table_of_session, IsReady, StandsFor, IsOffered};
-ghost use Rattle.apex_host.specs.Told.{run_text};
+ghost use Rattle.apex_host.specs.Told.{line_text, run_text, TellsPart};
 
 use crate::session::Session;
 use apex_types::Line;
@@ -17,9 +13,10 @@ use call_script::{Script, reply_line};
 use rig_core::Rig;
 
 /// Why a line's reply was not told.
-#[derive(Clone, Copy, Debug, PartialEq, Eq)]
 pub enum LineStop {
+    /// Telling it failed.
     Tell,
+    /// No memory was left to carry the line out.
     Memory,
 }
 
@@ -30,14 +27,16 @@ fn turn<R: Rig>(session: &mut Session, line: &Line, rig: &mut R) -> Result<(), L
     requires offered { IsOffered line.now.deed }
     ensures ready { OnOk result (IsReady session.new) }
     ensures table { table_of_session session.new ≡ table_of_session session.old }
-    ensures world { OnOk result ((w : World) → StandsFor session.old w → StandsFor session.new (world_after (table_of_session session.old) w line.now.deed)) }
+    ensures world { OnOk result ((w : World) → StandsFor session.old w
+        → StandsFor session.new (world_after (table_of_session session.old) w line.now.deed)) }
     ensures told { R.tells_text → OnOk result ((w : World) → StandsFor session.old w
-        → (R.state rig.new).told ≡ (R.state rig.old).told ++ text_of (told_for (table_of_session session.old) [] w line.now.number line.now.deed)) }
-    ensures part { R.tells_text → result ≡ Err LineStop.Tell → (w : World) → StandsFor session.old w
-        → IsToldPart (text_of (told_for (table_of_session session.old) [] w line.now.number line.now.deed)) (R.state rig.old).told (R.state rig.new).told }
-    ensures silent { R.tells_text → result ≡ Err LineStop.Memory → (R.state rig.new).told ≡ (R.state rig.old).told }
-    ensures later { (R.state rig.old).tell_faults ≤ (R.state rig.new).tell_faults }
-    ensures cause { result ≡ Err LineStop.Tell → Rose (R.state rig.old).tell_faults (R.state rig.new).tell_faults }
+        → (R.state rig.new).told
+        ≡ (R.state rig.old).told ++ line_text (table_of_session session.old) w line.now) }
+    ensures cut { result ≡ Err LineStop.Tell → (w : World) → StandsFor session.old w
+        → TellsPart R.tells_text (line_text (table_of_session session.old) w line.now)
+        (R.state rig.old) (R.state rig.new) }
+    ensures silent { R.tells_text → result ≡ Err LineStop.Memory
+        → (R.state rig.new).told ≡ (R.state rig.old).told }
     ensures disk { OnlyTells R.tells_view (R.state rig.old) (R.state rig.new) }
 {
     match session.step(line, rig) {
@@ -59,12 +58,16 @@ pub fn carry_out<R: Rig>(
     requires ready { IsReady session.old }
     requires of_table { AllByRecursion (IsLineOf (table_of_session session.old)) script.now }
     requires offered { AllByRecursion (λ line. IsOffered line.deed) script.now }
-    ensures told { R.tells_text → OnOk result ((w : World) → StandsFor session.old w → (R.state rig.new).told ≡ (R.state rig.old).told ++ run_text (table_of_session session.old) w script.now) }
-    ensures part { R.tells_text → result ≡ Err LineStop.Tell → (w : World) → StandsFor session.old w → IsToldPart (run_text (table_of_session session.old) w script.now) (R.state rig.old).told (R.state rig.new).told }
-    ensures some { R.tells_text → result ≡ Err LineStop.Memory → (w : World) → StandsFor session.old w
-        → (done : ℕ) × ((R.state rig.new).told ≡ (R.state rig.old).told ++ run_text (table_of_session session.old) w (take done script.now)) }
-    ensures later { (R.state rig.old).tell_faults ≤ (R.state rig.new).tell_faults }
-    ensures cause { result ≡ Err LineStop.Tell → Rose (R.state rig.old).tell_faults (R.state rig.new).tell_faults }
+    ensures told { R.tells_text → OnOk result ((w : World) → StandsFor session.old w
+        → (R.state rig.new).told
+        ≡ (R.state rig.old).told ++ run_text (table_of_session session.old) w script.now) }
+    ensures cut { result ≡ Err LineStop.Tell → (w : World) → StandsFor session.old w
+        → TellsPart R.tells_text (run_text (table_of_session session.old) w script.now)
+        (R.state rig.old) (R.state rig.new) }
+    ensures some { result ≡ Err LineStop.Memory → (done : ℕ) × (R.tells_text → (w : World)
+        → StandsFor session.old w → (R.state rig.new).told
+        ≡ (R.state rig.old).told
+        ++ run_text (table_of_session session.old) w (take done script.now)) }
     ensures disk { OnlyTells R.tells_view (R.state rig.old) (R.state rig.new) }
 {
     'lines: for k in 0..script.len() {

@@ -1,12 +1,10 @@
 //! Why a command ends before its end.
-ghost use Rattle.std.specs.Prelude.{◌≡◌};
-ghost use Rattle.apex_host.specs.Stops.{stop_of_table, stop_of_script};
+ghost use Rattle.std.specs.Prelude.{◌≡◌, ◌≢◌, ◌⊎◌};
 
 use call_script::ScriptError;
 use config_table::TableError;
 
 /// Why a command ends before its end.
-#[derive(Clone, Copy, Debug, PartialEq, Eq)]
 pub enum Stop {
     /// The table is refused.
     Table(TableError),
@@ -20,15 +18,14 @@ pub enum Stop {
     ScriptSource,
     /// A call of the device failed.
     Device,
-    /// Telling a reply failed.
-    Tell,
     /// No memory was left.
     Memory,
 }
 
 /// A table was not read.
 pub fn table_stop(error: TableError) -> Stop
-    ensures { result ≡ stop_of_table error }
+    ensures { ((error ≢ TableError.OutOfMemory) × (result ≡ Stop.Table error))
+        ⊎ ((error ≡ TableError.OutOfMemory) × (result ≡ Stop.Memory)) }
 {
     match error {
         TableError::OutOfMemory => Stop::Memory,
@@ -38,7 +35,8 @@ pub fn table_stop(error: TableError) -> Stop
 
 /// A script was not read.
 pub fn script_stop(error: ScriptError) -> Stop
-    ensures { result ≡ stop_of_script error }
+    ensures { ((error ≢ ScriptError.OutOfMemory) × (result ≡ Stop.Script error))
+        ⊎ ((error ≡ ScriptError.OutOfMemory) × (result ≡ Stop.Memory)) }
 {
     match error {
         ScriptError::OutOfMemory => Stop::Memory,

@@ -1,11 +1,10 @@
 //! How a command that stopped is told.
 ghost use Rattle.std.specs.Prelude.{◌≡◌, ◌++◌, ◌⊎◌, ◌≢◌};
 ghost use Rattle.rig_core.specs.Causes.{Rose};
-ghost use Rattle.rig_core.specs.Outside.{IsToldPart, Later};
+ghost use Rattle.rig_core.specs.Outside.{IsToldPart};
 ghost use Rattle.apex_host.specs.Disk.{OnlyTells};
-ghost use Rattle.apex_host.specs.Stops.{status_of_stop, line_of_stop};
-ghost use Rattle.apex_host.specs.Told.{table_refused_line};
-ghost use Rattle.apex_host.specs.ToldFormat.{too_small_line};
+ghost use Rattle.apex_host.specs.Stops.{ending_of};
+ghost use Rattle.apex_host.specs.Told.{table_refused_line, too_small_line};
 
 use crate::status::Status;
 use crate::stops::Stop;
@@ -44,10 +43,12 @@ fn too_small(wanted: u32) -> ReplyText
 pub fn told<R: Rig>(rig: &mut R, line: &[u8], status: Status) -> Status
     requires { status ≢ Status.ReplyFault }
     ensures status { (result ≡ status) ⊎ (result ≡ Status.ReplyFault) }
-    ensures told { R.tells_text → result ≡ status → (R.state rig.new).told ≡ (R.state rig.old).told ++ line.now }
-    ensures part { R.tells_text → IsToldPart line.now (R.state rig.old).told (R.state rig.new).told }
-    ensures cause { result ≡ Status.ReplyFault → Rose (R.state rig.old).tell_faults (R.state rig.new).tell_faults }
-    ensures later { Later (R.state rig.old) (R.state rig.new) }
+    ensures told { R.tells_text → result ≡ status
+        → (R.state rig.new).told ≡ (R.state rig.old).told ++ line.now }
+    ensures part { R.tells_text
+        → IsToldPart line.now (R.state rig.old).told (R.state rig.new).told }
+    ensures cause { result ≡ Status.ReplyFault
+        → Rose (R.state rig.old).tell_faults (R.state rig.new).tell_faults }
     ensures disk { OnlyTells R.tells_view (R.state rig.old) (R.state rig.new) }
 {
     match rig.tell(line) {
@@ -58,14 +59,16 @@ pub fn told<R: Rig>(rig: &mut R, line: &[u8], status: Status) -> Status
 
 /// Tells why a command stopped, and answers the status.
 pub fn refused<R: Rig>(rig: &mut R, stop: Stop) -> Status
-    ensures status { (result ≡ status_of_stop stop) ⊎ (result ≡ Status.ReplyFault) }
-    ensures told { R.tells_text → result ≡ status_of_stop stop → (R.state rig.new).told ≡ (R.state rig.old).told ++ line_of_stop stop }
-    ensures part { R.tells_text → IsToldPart (line_of_stop stop) (R.state rig.old).told (R.state rig.new).told }
-    ensures cause { result ≡ Status.ReplyFault → stop ≢ Stop.Tell → Rose (R.state rig.old).tell_faults (R.state rig.new).tell_faults }
-    ensures later { Later (R.state rig.old) (R.state rig.new) }
+    ensures status { (result ≡ (ending_of stop).status) ⊎ (result ≡ Status.ReplyFault) }
+    ensures told { R.tells_text → result ≡ (ending_of stop).status
+        → (R.state rig.new).told ≡ (R.state rig.old).told ++ (ending_of stop).line }
+    ensures part { R.tells_text
+        → IsToldPart (ending_of stop).line (R.state rig.old).told (R.state rig.new).told }
+    ensures cause { result ≡ Status.ReplyFault
+        → Rose (R.state rig.old).tell_faults (R.state rig.new).tell_faults }
+    ensures something { result ≡ Status.ReplyFault → stop ≢ Stop.Memory }
+    ensures never_done { result ≢ Status.Done }
     ensures disk { OnlyTells R.tells_view (R.state rig.old) (R.state rig.new) }
-    ensures memory { result ≡ Status.OutOfMemory → stop ≡ Stop.Memory }
-    ensures starved { stop ≡ Stop.Memory → result ≡ Status.OutOfMemory }
 {
     match stop {
         Stop::Table(error) => told(rig, table_refusal_line(error).bytes(), Status::TableRefused),
@@ -78,7 +81,6 @@ pub fn refused<R: Rig>(rig: &mut R, stop: Stop) -> Status
         Stop::TableSource => told(rig, b"source fault table\n", Status::SourceFault),
         Stop::ScriptSource => told(rig, b"source fault script\n", Status::SourceFault),
         Stop::Device => told(rig, b"device fault format\n", Status::DeviceFault),
-        Stop::Tell => Status::ReplyFault,
         Stop::Memory => Status::OutOfMemory,
     }
 }

@@ -1,0 +1,34 @@
+-- A text of which a part is told.
+use Rattle.std.proofs.Common.{◌≡◌, ◌≢◌, ℕ, ◌≤◌, List, [], ◌∷◌, ◌++◌, refl, sym, ◌∙◌, ap, arith, append_assoc}
+use Rattle.rig_core.specs.Causes.{Rose}
+use Rattle.rig_core.specs.Outside.{IsToldPart}
+use Rattle.apex_model.specs.Run.{line_of}
+
+-- a count that rose in a part of a call rose in the call
+pub rose-before : (a b c : ℕ) → Rose a b → b ≤ c → Rose a c
+rose-before a b c r l = omega arith
+
+pub rose-after : (a b c : ℕ) → a ≤ b → Rose b c → Rose a c
+rose-after a b c l r = omega arith
+
+-- a part of a line that is told after the text before it
+pub part-after : (start before now front line : List ℕ) → before ≡ start ++ front → IsToldPart line before now → IsToldPart (front ++ line) start now
+part-after start before now front line told part =
+    (front ++ part.0, part.1, append_assoc front part.0 part.1 ∙ ap (λ (x : List ℕ). front ++ x) part.2, part.3 ∙ ap (λ (x : List ℕ). x ++ part.0) told ∙ append_assoc start front part.0)
+
+-- ---- there is something to tell
+
+pub front-some : (front line : List ℕ) → front ≢ [] → front ++ line ≢ []
+front-some [] line some e = absurd (some refl)
+front-some (x ∷ front) line some e = let w : x ∷ (front ++ line) ≡ [] = e in cc
+
+pub back-some : (front line : List ℕ) → line ≢ [] → front ++ line ≢ []
+back-some [] line some e = some e
+back-some (x ∷ front) line some e = let w : x ∷ (front ++ line) ≡ [] = e in cc
+
+one-some : (x : ℕ) → x ∷ [] ≢ []
+one-some x e = let w : ◌≡◌ {A = List ℕ} (x ∷ []) [] = e in cc
+
+pub line-some : (words : List (List ℕ)) → line_of words ≢ []
+line-some [] e = one-some 10 e
+line-some (word ∷ words) e = back-some _ (10 ∷ []) (one-some 10) e

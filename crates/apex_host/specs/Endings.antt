@@ -1,0 +1,174 @@
+-- How each command ends.
+use Rattle.std.specs.Prelude.{◌≡◌, ◌≢◌, ◌⊎◌, ◌++◌, ◌*◌, ◌<◌, ◌≤◌, ℕ, List, [], take, Option, Some, None, Ok, Err}
+use Rattle.std.specs.Option.{ForSome}
+use Rattle.apex_types.specs.Rows.{Rows}
+use Rattle.apex_types.specs.declared.calls.Line.{Line}
+use Rattle.apex_model.specs.Accepted.{IsAccepted}
+use Rattle.apex_model.specs.Layout.{layout_blocks}
+use Rattle.rig_core.specs.Causes.{Rose}
+use Rattle.rig_core.specs.Outside.{Outside}
+use Rattle.table_model.specs.Table.{table_of}
+use Rattle.table_model.specs.declared.errors.TableError.{TableError}
+use Rattle.script_model.specs.Script.{Refusal, script_of}
+use Rattle.script_model.specs.Refusals.{refusal_line}
+use Rattle.apex_host.specs.Told.{IsCutShort, fresh_text, formatted_line, usage_line, table_refused_line, table_fault_line, script_fault_line, too_small_line, device_fault_line}
+use Rattle.apex_host.specs.declared.command.Command.{Command}
+use Rattle.apex_host.specs.declared.command.Command.TheVariants.{Format, Run}
+use Rattle.apex_host.specs.declared.status.Status.{Status}
+use Rattle.apex_host.specs.declared.status.Status.TheVariants.{Done, Usage, TableRefused, ScriptRefused, ImageRefused, SourceFault, DeviceFault, ReplyFault, OutOfMemory}
+
+-- ---- what is seen around a command
+
+-- At one moment: the bytes left in the two sources where they tell them, the device's size in
+-- bytes, the text told, and the counts of faults.
+pub record Seen : Type 0 where
+  pub table : Option (List ℕ)
+  pub script : Option (List ℕ)
+  pub size : ℕ
+  pub told : List ℕ
+  pub table_faults : ℕ
+  pub script_faults : ℕ
+  pub read_faults : ℕ
+  pub write_faults : ℕ
+  pub tell_faults : ℕ
+
+-- of each source the bytes left and the count of faults, and the device with its text
+abbrev pub seen : Option (List ℕ) → ℕ → Option (List ℕ) → ℕ → Outside → Seen
+seen table table_faults script script_faults o = record {
+  table = table;
+  script = script;
+  size = o.size;
+  told = o.told;
+  table_faults = table_faults;
+  script_faults = script_faults;
+  read_faults = o.read_faults;
+  write_faults = o.write_faults;
+  tell_faults = o.tell_faults;
+}
+
+-- what the sources and the device show of themselves at one moment
+abbrev pub seen_by : {T S R : Type 0} → (T → Option (List ℕ)) → (T → ℕ) → (S → Option (List ℕ))
+    → (S → ℕ) → (R → Outside) → T → S → R → Seen
+seen_by table table_faults script script_faults device t s r =
+    seen (table t) (table_faults t) (script s) (script_faults s) (device r)
+
+-- the bytes left, where they are told, spell this table
+abbrev pub IsTableOf : Option (List ℕ) → Rows → Type 0
+IsTableOf left rows = ForSome left (λ bytes. table_of bytes ≡ Ok rows)
+
+-- they are no table, for this reason
+abbrev pub IsNoTable : Option (List ℕ) → TableError → Type 0
+IsNoTable left e = ForSome left (λ bytes. table_of bytes ≡ Err e)
+
+-- they are no script for a table, for this reason
+abbrev pub IsNoScript : Rows → Option (List ℕ) → Refusal → Type 0
+IsNoScript rows left r = ForSome left (λ bytes. script_of rows bytes ≡ Err r)
+
+-- A source gave this table, and was read to its end.
+pub record GaveTable (left now : Option (List ℕ)) (rows : Rows) : Type 0 where
+  pub accepted : IsAccepted rows
+  pub spelled : IsTableOf left rows
+  pub ended : ForSome left (λ bytes. now ≡ Some [])
+
+-- A source gave these lines of a script for a table, and was read to its end.
+pub record GaveScript (left now : Option (List ℕ)) (rows : Rows) (lines : List Line) : Type 0 where
+  pub spelled : ForSome left (λ bytes. script_of rows bytes ≡ Ok lines)
+  pub ended : ForSome left (λ bytes. now ≡ Some [])
+
+-- the command was given this table
+abbrev pub HasTable : Seen → Seen → Rows → Type 0
+HasTable old now rows = GaveTable old.table now.table rows
+
+-- and these lines of a script for it
+abbrev pub HasScript : Seen → Seen → Rows → List Line → Type 0
+HasScript old now rows lines = GaveScript old.script now.script rows lines
+
+-- the bytes of a table's image
+abbrev pub image_bytes : Rows → ℕ
+image_bytes rows = 512 * layout_blocks rows
+
+-- a count of the device's faults rose
+abbrev pub DeviceFailed : Seen → Seen → Type 0
+DeviceFailed old now =
+    Rose old.read_faults now.read_faults ⊎ Rose old.write_faults now.write_faults
+
+-- ---- why a command ends
+
+-- The reasons in the order in which they count, each with the command, the status and the text that
+-- is due. A further command adds its reasons.
+pub data Ends (old now : Seen) : Option Command → Status → List ℕ → Type 0 where
+  -- The words are no command.
+  usage : Ends old now None Usage usage_line
+  -- Reading the table's source failed.
+  table_fault : (c : Command) → Rose old.table_faults now.table_faults
+      → Ends old now (Some c) SourceFault table_fault_line
+  -- What the source gave is no table.
+  table_refused : (c : Command) (e : TableError) → IsNoTable old.table e
+      → Ends old now (Some c) TableRefused (table_refused_line e)
+  -- A format found the device smaller than the table's image.
+  too_small : (rows : Rows) → HasTable old now rows → old.size < image_bytes rows
+      → Ends old now (Some Format) ImageRefused (too_small_line (image_bytes rows))
+  -- A format met a failed call of the device.
+  device_fault : (rows : Rows) → HasTable old now rows → image_bytes rows ≤ old.size
+      → DeviceFailed old now → Ends old now (Some Format) DeviceFault device_fault_line
+  -- A format made the device the empty image of the table.
+  formatted : (rows : Rows) → HasTable old now rows → image_bytes rows ≤ old.size
+      → Ends old now (Some Format) Done (formatted_line (layout_blocks rows))
+  -- A run had its table, and reading the script's source failed.
+  script_fault : (rows : Rows) → HasTable old now rows → Rose old.script_faults now.script_faults
+      → Ends old now (Some Run) SourceFault script_fault_line
+  -- What that source gave is no script for the table.
+  script_refused : (rows : Rows) (r : Refusal) → HasTable old now rows
+      → IsNoScript rows old.script r → Ends old now (Some Run) ScriptRefused (refusal_line r)
+  -- A run carried out its script, from the state of a module with nothing stored.
+  ran : (rows : Rows) (lines : List Line) → HasTable old now rows → HasScript old now rows lines
+      → Ends old now (Some Run) Done (fresh_text rows lines)
+  -- Memory ran out at a line of the script, after the first k of them.
+  starved_in_line : (rows : Rows) (lines : List Line) (k : ℕ) → HasTable old now rows
+      → HasScript old now rows lines
+      → Ends old now (Some Run) OutOfMemory (fresh_text rows (take k lines))
+  -- Memory ran out before there was anything to tell, at any step of a command.
+  starved : (c : Command) → Ends old now (Some c) OutOfMemory []
+
+-- ---- how a command ends
+
+-- all that is due is told, and the status is the result
+abbrev pub ToldAll : Type 0 → Seen → Seen → Status → List ℕ → Status → Type 0
+ToldAll tells_text old now status due result =
+    (result ≡ status) × (tells_text → now.told ≡ old.told ++ due)
+
+-- telling it failed after a part of it, which can't be where memory ran out
+abbrev pub ToldPart : Type 0 → Seen → Seen → Status → List ℕ → Status → Type 0
+ToldPart tells_text old now status due result =
+    (result ≡ ReplyFault) × (status ≢ OutOfMemory)
+    × IsCutShort tells_text due old.told now.told old.tell_faults now.tell_faults
+
+-- a source's count of faults is as it was, or its fault is why the command ends
+abbrev pub ComesFirst : ℕ → ℕ → List ℕ → Status → List ℕ → Type 0
+ComesFirst before now line status due =
+    (now ≡ before) ⊎ ((status ≡ SourceFault) × (due ≡ line))
+
+-- and so it is with both sources
+abbrev pub SourcesFirst : Seen → Seen → Status → List ℕ → Type 0
+SourcesFirst old now status due =
+    ComesFirst old.table_faults now.table_faults table_fault_line status due
+    × ComesFirst old.script_faults now.script_faults script_fault_line status due
+
+-- The command ends for a reason, and what is due then is told, or a part of it. A fault of a source
+-- comes before all that was read of it.
+pub record EndsSo (tells_text : Type 0) (command : Option Command) (old now : Seen)
+    (result : Status) : Type 0 where
+  pub status : Status
+  pub due : List ℕ
+  pub reason : Ends old now command status due
+  pub told : ToldAll tells_text old now status due result
+      ⊎ ToldPart tells_text old now status due result
+  pub sources_first : SourcesFirst old now status due
+
+-- The script's source is read by a run alone, after its table was given with no fault.
+pub record ReadsScript (command : Option Command) (left now : Option (List ℕ))
+    (faults faults_now : ℕ) : Type 0 where
+  pub run : command ≡ Some Run
+  pub rows : Rows
+  pub gave : GaveTable left now rows
+  pub quiet : faults_now ≡ faults
