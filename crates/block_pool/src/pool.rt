@@ -58,6 +58,13 @@ impl Pool {
         count_free(&self.blocks) as u32
     }
 
+    /// What holds of every pool; a caller learns it here.
+    pub fn stand(&self)
+        ensures { AreBuffers self.now }
+    {
+        let _blocks = &self.blocks;
+    }
+
     /// The node that holds a block.
     pub fn find(&self, file: FileNode, index: u32) -> Option<u32>
         ensures found { result ≡ node_of self.now file index }

@@ -63,6 +63,7 @@ impl Tree {
     pub fn stand(&self)
         ensures consistent { IsConsistent self.now }
         ensures spelled { AreSpelled self.now }
+        ensures stored { length self.now.stored ≡ length self.now.files }
     {
         let _files = &self.files;
     }

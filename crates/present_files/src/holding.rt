@@ -19,7 +19,7 @@ use rig_core::{DeviceFault, Rig};
 pub fn stand(pool: &Pool)
     ensures { AreBuffers pool.now }
 {
-    pool.find(FileNode(0), 0);
+    pool.stand();
 }
 
 /// The node of a block. Where none holds it, a free one takes it with the bytes that are stored under the block's

@@ -1,4 +1,3 @@
 pub mod Charged
 pub mod Copied
 pub mod Mounted
-pub mod Stored

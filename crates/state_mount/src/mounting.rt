@@ -65,8 +65,8 @@ fn body_of(alloc: Global, row: &TreeRow, kept: &TreeRegion) -> Result<Vec<u8>, O
     // What holds of every tree; a caller learns it here.
     ensures stored { IfOk result (λ body. length kept.now.tree.stored ≡ length kept.now.tree.files) }
 {
-    let mut body = zeros(alloc, body_length(row))?;
-    kept.tree.put_body(&mut body);
+    let body = zeros(alloc, body_length(row))?;
+    kept.tree.stand();
     Ok(body)
 }
 
