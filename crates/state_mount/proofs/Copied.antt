@@ -21,12 +21,13 @@ no-sizes v = record {
   many = refl;
   stored = λ f low. absurd (omega (arith, low));
   short = λ f low. absurd (omega (arith, low));
+  counted = λ f low. absurd (omega (arith, low));
   unused = λ f low. absurd (omega (arith, low));
 }
 
 pub one-size : (v : TreeValue) (count : ℕ) (sizes : List PresentSize) (one : PresentSize) → AreStoredSizes v count sizes → one ≡ stored_size v count → (stored_of v count).0 ≤ 1048576
-    → (slot v.files count ≡ None → stored_of v count ≡ (0, 0)) → AreStoredSizes v (count + 1) (sizes ++ one ∷ [])
-one-size v count sizes one are is short unused = record {
+    → (stored_of v count).1 ≤ 4294967295 → (slot v.files count ≡ None → stored_of v count ≡ (0, 0)) → AreStoredSizes v (count + 1) (sizes ++ one ∷ [])
+one-size v count sizes one are is short counted unused = record {
   many = length-append sizes (one ∷ []) ∙ ap (λ n. n + 1) are.many;
   stored = λ f low. elim (cases_lt f count) [
     | inl less ↦ front-stays sizes one never_changed f (omega (arith, less, are.many)) ∙ are.stored f less
@@ -38,6 +39,10 @@ one-size v count sizes one are is short unused = record {
   short = λ f low. elim (cases_lt f count) [
     | inl less ↦ are.short f less
     | inr last ↦ let same : count ≡ f = omega (arith, low, last) in subst (λ n. (stored_of v n).0 ≤ 1048576) same short
+  ];
+  counted = λ f low. elim (cases_lt f count) [
+    | inl less ↦ are.counted f less
+    | inr last ↦ let same : count ≡ f = omega (arith, low, last) in subst (λ n. (stored_of v n).1 ≤ 4294967295) same counted
   ];
   unused = λ f low. elim (cases_lt f count) [
     | inl less ↦ are.unused f less

@@ -23,6 +23,7 @@ pub record AreStoredSizes (v : TreeValue) (count : ℕ) (sizes : List PresentSiz
   pub stored : (f : ℕ) → f < count → slice_index_or sizes f never_changed ≡ stored_size v f
   -- and these hold of every tree
   pub short : (f : ℕ) → f < count → (stored_of v f).0 ≤ 1048576
+  pub counted : (f : ℕ) → f < count → (stored_of v f).1 ≤ 4294967295
   pub unused : (f : ℕ) → f < count → slot v.files f ≡ None → stored_of v f ≡ (0, 0)
 
 -- So many files are charged for their durable contents, and the others for nothing.
