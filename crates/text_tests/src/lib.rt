@@ -1,0 +1,15 @@
+//! Tests of the readers of tables and scripts and of told lines, and of the tables in memory below the stores.
+#![tactic(auto)]
+
+#[cfg(test)]
+mod buffers;
+#[cfg(test)]
+mod handles;
+#[cfg(test)]
+mod quotas;
+#[cfg(test)]
+mod replies;
+#[cfg(test)]
+mod scripts;
+#[cfg(test)]
+mod tables;
