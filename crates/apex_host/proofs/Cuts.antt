@@ -1,8 +1,7 @@
 -- A text of which a part is told.
-use Rattle.std.proofs.Common.{◌≡◌, ◌≢◌, ℕ, ◌≤◌, List, [], ◌∷◌, ◌++◌, refl, sym, ◌∙◌, ap, arith, append_assoc}
+use Rattle.std.proofs.Common.{◌≡◌, ◌≢◌, ℕ, ◌≤◌, List, [], ◌∷◌, ◌++◌, refl, ◌∙◌, ap, arith, append_assoc}
 use Rattle.rig_core.specs.Causes.{Rose}
 use Rattle.rig_core.specs.Outside.{IsToldPart}
-use Rattle.apex_model.specs.Run.{line_of}
 
 -- a count that rose in a part of a call rose in the call
 pub rose-before : (a b c : ℕ) → Rose a b → b ≤ c → Rose a c
@@ -25,10 +24,3 @@ front-some (x ∷ front) line some e = let w : x ∷ (front ++ line) ≡ [] = e 
 pub back-some : (front line : List ℕ) → line ≢ [] → front ++ line ≢ []
 back-some [] line some e = some e
 back-some (x ∷ front) line some e = let w : x ∷ (front ++ line) ≡ [] = e in cc
-
-one-some : (x : ℕ) → x ∷ [] ≢ []
-one-some x e = let w : ◌≡◌ {A = List ℕ} (x ∷ []) [] = e in cc
-
-pub line-some : (words : List (List ℕ)) → line_of words ≢ []
-line-some [] e = one-some 10 e
-line-some (word ∷ words) e = back-some _ (10 ∷ []) (one-some 10) e

@@ -2,13 +2,14 @@
 use Rattle.std.proofs.Common.{◌≡◌, ℕ, ◌⊎◌, inl, inr, ⊎_elim, List, length, Option, Some, None, refl, sym, ap, subst, ◌∙◌, arith}
 use Rattle.rig_core.specs.Bytes.{byte}
 use Rattle.rig_core.specs.Leaves.{Leaves, IsAllSettled}
-use Rattle.rig_core.specs.Outside.{Outside, AllNow, Sound, Later, MakesAtMost, Speaks}
+use Rattle.rig_core.specs.Outside.{Outside, Sound, Later, MakesAtMost, Speaks}
 use Rattle.rig_core.proofs.Moments.{pairs_none, pairs_then, pairs_weaker, leaves_both}
 use Rattle.apex_types.specs.Rows.{Rows}
-use Rattle.recover_scan.specs.Format.{OldOrFormatted, KeepsRest, IsFormatted, IsWholeEmpty}
+use Rattle.recover_scan.specs.Format.{OldOrFormatted, KeepsRest}
 use Rattle.recover_scan.proofs.Changes.{later_same, later_then}
 use Rattle.apex_host.specs.Disk.{WasLeft, OnlyTells, IsUntouched, IsMomentOfFormat, FormatsDisk, HoldsEmpty, IsEmptied, BeginsFormat, MakesEmpty, LeavesDisk, untouched, formatted, format_failed}
-use Rattle.apex_host.specs.Stops.{Ending, ending_of}
+use Rattle.apex_host.specs.Endings.{IsTableOf}
+use Rattle.apex_host.specs.Stops.{ending_of}
 use Rattle.apex_host.specs.declared.command.Command.{Command}
 use Rattle.apex_host.specs.declared.command.Command.TheVariants.{Format, Run}
 use Rattle.apex_host.specs.declared.status.Status.{Status}
@@ -87,6 +88,9 @@ holds-told V K rows o m e sound holds tells = record {
   images = λ image told now. let was = was-left V K m e sound tells image (told, now) in holds.images image was.0 was.1;
   view = λ v. subst (IsEmptied rows o.view) (sym (tells.view v)) (holds.view v);
 }
+
+abbrev pub begins-format : {left : Option (List ℕ)} (rows : Rows) (o e : Outside) → IsTableOf left rows → Leaves (OldOrFormatted rows o.view) o e → Leaves (KeepsRest rows o.view) o e → BeginsFormat left o e
+begins-format rows o e spelled moment rest = record { rows = rows; table = spelled; moments = formats-leaves rows o e moment rest }
 
 module _ (V K : Type 0) {left : Option (List ℕ)} (o m e : Outside) (sound : Sound V K m) where
   pub begun-told : BeginsFormat left o m → OnlyTells V m e → BeginsFormat left o e

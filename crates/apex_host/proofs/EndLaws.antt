@@ -1,5 +1,5 @@
 -- What follows from how a command ends, by the reasons.
-use Rattle.std.proofs.Common.{◌≡◌, ℕ, ◌*◌, ◌<◌, ◌≤◌, ◌⊎◌, inl, inr, ⊎_elim, List, ◌++◌, Option, Some, None, refl, sym, ◌∙◌, ap, subst, arith}
+use Rattle.std.proofs.Common.{◌≡◌, ℕ, ◌<◌, ◌≤◌, ◌⊎◌, inl, inr, ⊎_elim, List, ◌++◌, Option, Some, None, refl, sym, ◌∙◌, ap, subst, arith}
 use Rattle.std.specs.Prelude.{Result, Ok, Err}
 use Rattle.apex_types.specs.Rows.{Rows}
 use Rattle.apex_types.specs.declared.calls.Line.{Line}
@@ -13,7 +13,7 @@ use Rattle.script_model.specs.Script.{Refusal, script_of}
 use Rattle.script_model.specs.Refusals.{refusal_line}
 use Rattle.apex_host.specs.Disk.{IsMomentOfFormat, FormatsDisk, BeginsFormat, LeavesDisk, untouched, formatted, format_failed}
 use Rattle.apex_host.specs.Endings.{Seen, Ends, usage, table_fault, table_refused, starved, too_small, device_fault, formatted as made, script_fault, script_refused, ran, starved_in_line, EndsSo, GaveTable, DeviceFailed, image_bytes}
-use Rattle.apex_host.specs.Laws.{Means, StatusesMean, TellsUsage, ReadsTable, ReadsLines, EndsWith, EndsOrStarves, IsQuiet, IsQuietRun, IsQuietFormat, RefusesTables, RefusesScripts, CarriesOut, RefusesSmall, Formats, FormatsAtEveryMoment}
+use Rattle.apex_host.specs.Laws.{Means, ReadsTable, ReadsLines, EndsWith, EndsOrStarves, IsQuiet, IsQuietRun, IsQuietFormat}
 use Rattle.apex_host.specs.Told.{fresh_text, formatted_line, usage_line, table_refused_line, too_small_line}
 use Rattle.apex_host.specs.declared.command.Command.{Command}
 use Rattle.apex_host.specs.declared.command.Command.TheVariants.{Format, Run}
@@ -37,7 +37,7 @@ module _ {old now : Seen} where
   reason-means (starved_in_line rows lines k gave read) = (Run, refl)
   reason-means (starved c) = (c, refl)
 
-pub statuses-mean : (T : Type 0) → StatusesMean T
+pub statuses-mean : (T : Type 0) (command : Option Command) (old now : Seen) (result : Status) → EndsSo T command old now result → Means command old now result
 statuses-mean T command old now result ends =
     let P : Status → Type 0 = λ s. Means command old now s in
     ⊎_elim (λ is. subst P (sym is.0) (reason-means ends.reason)) (λ fault. subst P (sym fault.0) fault.2.rose) ends.told
@@ -75,7 +75,7 @@ module _ {T : Type 0} {command : Option Command} {old now : Seen} {result : Stat
 usage-reason : {old now : Seen} {status : Status} {due : List ℕ} → Ends old now None status due → IsReason status due Usage usage_line
 usage-reason usage = (refl, refl)
 
-pub tells-usage : (T : Type 0) → TellsUsage T
+pub tells-usage : (T : Type 0) (old now : Seen) (result : Status) → EndsSo T None old now result → (Rose old.tell_faults now.tell_faults → ⊥) → EndsWith T old now result Usage usage_line
 tells-usage T old now result ends quiet = ⊎_elim (λ told. ends-with ends told (usage-reason ends.reason)) (λ fault. absurd (quiet fault.2.rose)) ends.told
 
 -- ---- a refused table
@@ -96,7 +96,7 @@ module _ {old now : Seen} (e : TableError) (quiet : IsQuiet old now) (reads : Re
   refused-reason (starved_in_line rows lines k gave read) = absurd (none-given gave)
   refused-reason (starved c) = inr refl
 
-pub refuses-tables : (T : Type 0) → RefusesTables T
+pub refuses-tables : (T : Type 0) (c : Command) (old now : Seen) (result : Status) (e : TableError) → EndsSo T (Some c) old now result → IsQuiet old now → ReadsTable old (Err e) → EndsOrStarves T old now result TableRefused (table_refused_line e)
 refuses-tables T c old now result e ends quiet reads = ends-or-starves ends quiet (refused-reason e quiet reads ends.reason)
 
 -- ---- an accepted table
@@ -140,22 +140,26 @@ module _ {old now : Seen} {rows : Rows} (quiet : IsQuiet old now) (reads : Reads
   room-reason fits sound (made a gave room) = inl (refl, ap (λ (x : Rows). formatted_line (layout_blocks x)) (same-table gave))
   room-reason fits sound (starved c) = inr refl
 
-pub refuses-scripts : (T : Type 0) → RefusesScripts T
+pub refuses-scripts : (T : Type 0) (old now : Seen) (result : Status) (rows : Rows) (r : Refusal) → EndsSo T (Some Run) old now result → IsQuietRun old now → ReadsTable old (Ok rows) → ReadsLines rows old (Err r)
+    → EndsOrStarves T old now result ScriptRefused (refusal_line r)
 refuses-scripts T old now result rows r ends quiet reads script = ends-or-starves ends quiet.0
     (⊎_elim (λ found. inl (found.2.0, found.2.1 ∙ ap refusal_line (err-err {X = List Line} (sym found.1))))
     (λ other. ⊎_elim (λ found. absurd (ok-err (sym found.1))) (λ memory. inr memory) other)
     (script-reason quiet.0 reads quiet.1 script ends.reason))
 
-pub carries-out : (T : Type 0) → CarriesOut T
+pub carries-out : (T : Type 0) (old now : Seen) (result : Status) (rows : Rows) (lines : List Line) → EndsSo T (Some Run) old now result → IsQuietRun old now → ReadsTable old (Ok rows) → ReadsLines rows old (Ok lines)
+    → EndsOrStarves T old now result Done (fresh_text rows lines)
 carries-out T old now result rows lines ends quiet reads script = ends-or-starves ends quiet.0
     (⊎_elim (λ found. absurd (ok-err found.1))
     (λ other. ⊎_elim (λ found. inl (found.2.0, found.2.1 ∙ ap (λ (x : List Line). fresh_text rows x) (ok-ok {E = Refusal} (sym found.1)))) (λ memory. inr memory) other)
     (script-reason quiet.0 reads quiet.1 script ends.reason))
 
-pub refuses-small : (T : Type 0) → RefusesSmall T
+pub refuses-small : (T : Type 0) (old now : Seen) (result : Status) (rows : Rows) → EndsSo T (Some Format) old now result → IsQuiet old now → ReadsTable old (Ok rows) → old.size < image_bytes rows
+    → EndsOrStarves T old now result ImageRefused (too_small_line (image_bytes rows))
 refuses-small T old now result rows ends quiet reads small = ends-or-starves ends quiet (small-reason quiet reads small ends.reason)
 
-pub formats-room : (T : Type 0) → Formats T
+pub formats-room : (T : Type 0) (old now : Seen) (result : Status) (rows : Rows) → EndsSo T (Some Format) old now result → IsQuietFormat old now → ReadsTable old (Ok rows) → image_bytes rows ≤ old.size
+    → EndsOrStarves T old now result Done (formatted_line (layout_blocks rows))
 formats-room T old now result rows ends quiet reads fits = ends-or-starves ends quiet.0 (room-reason quiet.0 reads fits quiet.1 ends.reason)
 
 -- ---- the disk while it is formatted
@@ -164,11 +168,8 @@ module _ (bytes : List ℕ) (rows : Rows) (accepted : table_of bytes ≡ Ok rows
   begun-moments : BeginsFormat (Some bytes) old new → FormatsDisk rows old new
   begun-moments begun = let same : begun.rows ≡ rows = ok-ok {E = TableError} (sym (begun.table bytes refl) ∙ accepted) in subst (λ (x : Rows). FormatsDisk x old new) same begun.moments
 
-  moments : {V : Type 0} {command : Option Command} {status : Status} → LeavesDisk V (Some bytes) old new command status → FormatsDisk rows old new
+  pub moments : {V : Type 0} {command : Option Command} {status : Status} → LeavesDisk V (Some bytes) old new command status → FormatsDisk rows old new
   moments (formatted ended) = begun-moments ended.begins
   moments (format_failed status why begun) = begun-moments begun
   moments (untouched command status not same) =
       pairs_weaker (λ image told. image ≡ old.view) (λ image told. IsMomentOfFormat rows old.view image) old new (λ image told is. same-moment rows old.view image is) same.cuts
-
-pub formats-at-every-moment : {R : Type 0} (V : Type 0) (state : R → Outside) → FormatsAtEveryMoment V state
-formats-at-every-moment V state old new result bytes rows accepted leaves = moments bytes rows accepted leaves

@@ -1,7 +1,7 @@
 use Rattle.std.proofs.Common.{rules, ◌≡◌, inr, refl}
 use Rattle.recover_scan.specs.declared.errors.FormatError.TheVariants.{TooSmall, Device, Memory}
 use Rattle.apex_host.specs.declared.command.Command.TheVariants.{Format}
-use Rattle.apex_host.proofs.Disks.{formats-leaves}
+use Rattle.apex_host.proofs.Disks.{begins-format}
 use Rattle.apex_host.proofs.Endings.{no-table, owes-formatted, owes-unformatted}
 use Rattle.apex_host.proofs.formatting.format_image.Goals as goal
 
@@ -17,15 +17,8 @@ pub returns-in-Ok-format-clause-empty : goal.returns-in-Ok-format-clause-empty
 returns-in-Ok-format-clause-empty g c =
     let done = c.in-Ok-format.ensures in
     record {
-      begins = record {
-        rows = c.in-Ok.rows;
-        table = c.in-Ok.ensures.gave.spelled;
-        moments = formats-leaves c.in-Ok.rows (g.R.Rig.state c.args.rig.now) (g.R.Rig.state c.format.new.rig) done.any_moment done.rest;
-      };
-      holds = record {
-        images = λ image told now. (done.formatted image told now, done.whole image told now);
-        view = λ v. (done.shown v, done.whole_shown v);
-      };
+      begins = begins-format c.in-Ok.rows (g.R.Rig.state c.args.rig.now) (g.R.Rig.state c.format.new.rig) c.in-Ok.ensures.gave.spelled done.any_moment done.rest;
+      holds = record { images = λ image told now. (done.formatted image told now, done.whole image told now); view = λ v. (done.shown v, done.whole_shown v) };
     }
 
 pub returns-in-Err-TooSmall-clause-stopped : goal.returns-in-Err-TooSmall-clause-stopped
@@ -39,14 +32,8 @@ returns-in-Err-Device-clause-stopped g c = λ script faults.
     (c.format.new.rig ≡ c.args.rig.now) c.in-Err-Device.field-0 Device c.in-Err-Device.field-0-is c.in-Err-Device.is c.in-Err-Device.ensures.cause
 
 pub returns-in-Err-Device-clause-failed : goal.returns-in-Err-Device-clause-failed
-returns-in-Err-Device-clause-failed g c = inr (
-  refl,
-  record {
-    rows = c.in-Ok.rows;
-    table = c.in-Ok.ensures.gave.spelled;
-    moments = formats-leaves c.in-Ok.rows (g.R.Rig.state c.args.rig.now) (g.R.Rig.state c.format.new.rig) c.format.ensures.any_moment c.format.ensures.rest;
-  },
-)
+returns-in-Err-Device-clause-failed g c =
+    inr (refl, begins-format c.in-Ok.rows (g.R.Rig.state c.args.rig.now) (g.R.Rig.state c.format.new.rig) c.in-Ok.ensures.gave.spelled c.format.ensures.any_moment c.format.ensures.rest)
 
 pub returns-clause-stopped : goal.returns-clause-stopped
 returns-clause-stopped g c = λ script faults.

@@ -1,5 +1,5 @@
-use Rattle.apex_host.proofs.EndLaws.{formats-at-every-moment}
+use Rattle.apex_host.proofs.EndLaws.{moments}
 use Rattle.apex_host.proofs.laws.formats_at_every_moment.Goals as goal
 
 pub returns : goal.returns
-returns g c = formats-at-every-moment g.R.Rig.tells_view g.R.Rig.state
+returns g c = λ before after status bytes rows accepted leaves. moments bytes rows accepted leaves
