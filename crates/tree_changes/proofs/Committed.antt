@@ -1,5 +1,5 @@
 -- A whole slot is committed: which tree each image stands for meanwhile, and that the region is in step afterwards.
-use Rattle.std.proofs.Common.{◌≡◌, ◌⊎◌, inl, inr, ⊎_elim, ℕ, ◌+◌, ◌*◌, ◌%◌, ◌≤◌, true, List, [], ◌++◌, length, take, replicate, sym, ap, subst, ◌∙◌, Option, Some, arith}
+use Rattle.std.proofs.Common.{◌≡◌, ◌⊎◌, inl, inr, ⊎_elim, ℕ, ◌+◌, ◌*◌, ◌%◌, ◌≤◌, List, [], ◌++◌, length, take, replicate, sym, ap, subst, ◌∙◌, Option, Some, arith}
 use Rattle.std.specs.Prelude.{slice_index_or, slice_set}
 use Rattle.std.proofs.lemmas.Bool.Decides.{nat_tests}
 use Rattle.std.proofs.lemmas.List.{length-set}
@@ -25,7 +25,7 @@ use Rattle.tree_changes.specs.Contents.{with_empty_journal, HasNewSlot}
 use Rattle.tree_changes.specs.InStep.{InStep, IsTree, data_at, slots_long}
 use Rattle.tree_changes.specs.Ready.{IsReady}
 use Rattle.tree_mount.proofs.JournalRoom.{room-there}
-use Rattle.tree_mount.specs.Region.{Spells, StandsFor, tree_over, region_at, slots_at, body_of, journal_of}
+use Rattle.tree_mount.specs.Region.{Spells, StandsFor, tree_over, region_at, slots_at, journal_of}
 use Rattle.tree_mount.specs.declared.region.TreeRegion.{TreeRegion}
 
 -- at each moment slots have their old content, or this one with the bytes around them that reads gave before

@@ -18,6 +18,3 @@ pub use recording::{has_room, record_change};
 pub use removing::remove_file_name;
 pub use storing::{SizeAndChanges, store_file};
 pub use writing::write_block;
-
-#[cfg(test)]
-mod tests;

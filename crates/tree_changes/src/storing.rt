@@ -17,7 +17,7 @@ use rig_core::{DeviceFault, Rig};
 use tree_mount::{BlockNumbers, TreeRegion};
 
 /// The size in bytes of a file's durable content, and its change count.
-#[derive(Clone, Copy, Debug)]
+#[derive(Clone, Copy)]
 pub struct SizeAndChanges {
     pub size: u32,
     pub changes: u32,
