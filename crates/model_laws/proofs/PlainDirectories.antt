@@ -76,7 +76,7 @@ entry_values-named name (file f) h = h
 module _ (table : Rows) (fs : FileSystem) (p : ℕ) (v : IsValidFileSystem table fs) where
   plain-directory : (id : ℕ) (rest : OpenedDirectory → List Name → Outcome FileSystem) → ((h : OpenedDirectory) (names : List Name) → IsPlainOutcome (rest h names))
       → IsPlainOutcome (on_directory_handle fs p id (λ handle. on_directory handle (rest handle)))
-  plain-directory id rest h = plain-given (handle_at (handles_in fs p).directories id) Ebadf _ refl (λ handle. plain-given handle.path Estale (rest handle) refl (λ names. h handle names))
+  plain-directory id rest h = plain-given (handle_at (handles_in fs p).directories id) Ebadf _ refl (λ handle. plain-given handle.path Estale (rest handle) refl (h handle))
 
   open_directory_at-plain : (place : Place) (o : Option (Node File)) → IsPlainOutcome (open_directory_at fs p place o)
   open_directory_at-plain place None = plain-refuse Enoent refl

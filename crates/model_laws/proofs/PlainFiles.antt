@@ -88,10 +88,10 @@ module _ (table : Rows) (fs : FileSystem) (p : ℕ) where
       plain-for (walk (tree_in fs place.tree) place.names) (rest place) (walk-plain (tree_in fs place.tree) place.names) (h place))
 
   plain-handle : (id : ℕ) (rest : OpenedFile → Outcome FileSystem) → ((h : OpenedFile) → IsPlainOutcome (rest h)) → IsPlainOutcome (on_file_handle fs p id rest)
-  plain-handle id rest h = plain-given (handle_at (handles_in fs p).files id) Ebadf rest refl (λ a. h a)
+  plain-handle id rest h = plain-given (handle_at (handles_in fs p).files id) Ebadf rest refl h
 
   plain-file : (handle : OpenedFile) (rest : List Name → File → Outcome FileSystem) → ((names : List Name) (f : File) → IsPlainOutcome (rest names f)) → IsPlainOutcome (on_file fs handle rest)
-  plain-file handle rest h = plain-given handle.path Estale _ refl (λ names. plain-given (file_of (standing_at (tree_in fs handle.tree) names)) Estale (rest names) refl (λ f. h names f))
+  plain-file handle rest h = plain-given handle.path Estale _ refl (λ names. plain-given (file_of (standing_at (tree_in fs handle.tree) names)) Estale (rest names) refl (h names))
 
   open_new_at-plain : (place : Place) (o : Option (Node File)) → IsPlainOutcome (open_new_at table fs p place o)
   open_new_at-plain place (Some directory) = plain-refuse Eisdir refl

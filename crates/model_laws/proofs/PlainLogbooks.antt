@@ -32,10 +32,10 @@ plain-entry books (Some v) h = plain-accepted books v h
 
 module _ (table : Rows) (books : LogbookSystem) (p : ℕ) where
   plain-book : (id : ℕ) (rest : ℕ → LogbookRow → LogbookOutcome) → ((k : ℕ) (row : LogbookRow) → IsPlainOutcome (rest k row)) → IsPlainOutcome (on_book table books p id rest)
-  plain-book id rest h = plain-given_or (book_number table p id) _ _ (plain-refuse_with _) (λ k. plain-if_with (not (is_created books k)) _ _ (plain-given_or (book_row table k) _ _ (plain-refuse_with _) (λ row. h k row)))
+  plain-book id rest h = plain-given_or (book_number table p id) _ _ (plain-refuse_with _) (λ k. plain-if_with (not (is_created books k)) _ _ (plain-given_or (book_row table k) _ _ (plain-refuse_with _) (h k)))
 
   plain-named : (name : List ℕ) (rest : ℕ → ℕ → LogbookOutcome) → ((place k : ℕ) → IsPlainOutcome (rest place k)) → IsPlainOutcome (on_named_book table p name rest)
-  plain-named name rest h = plain-given_or (book_named table p name) _ _ (plain-refuse_with _) (λ place. plain-given_or (slice_get (logbooks_of table p) place) _ _ (plain-refuse_with _) (λ k. h place k))
+  plain-named name rest h = plain-given_or (book_named table p name) _ _ (plain-refuse_with _) (λ place. plain-given_or (slice_get (logbooks_of table p) place) _ _ (plain-refuse_with _) (h place))
 
   plain-message : (id : ℕ) (message : List ℕ) (rest : ℕ → LogbookRow → LogbookOutcome) → ((k : ℕ) (row : LogbookRow) → IsPlainOutcome (rest k row)) → IsPlainOutcome (on_message table books p id message rest)
   plain-message id message rest h = plain-book id _ (λ k row. plain-if_with (is_out_of_size row.message_size message) _ _ (plain-if_with (is_worn_out (book_in books k)) _ _ (h k row)))

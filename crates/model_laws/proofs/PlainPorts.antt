@@ -22,7 +22,7 @@ plain-granted (Some a) none rest h k = k a
 module _ (table : Rows) (system : PortSystem) (now p : ℕ) where
   plain-port : (id : ℕ) (rest : Port → ChannelRow → PortOutcome) → ((port : Port) (row : ChannelRow) → IsPlainOutcome (rest port row)) → IsPlainOutcome (on_port table system p id rest)
   plain-port id rest h = plain-granted (port_number table p id) _ _ (plain-refuse_with _) (λ k. plain-if_with (not (is_made system k)) _ _
-      (plain-granted (slice_get (ports table) k) _ _ (plain-refuse_with _) (λ port. plain-granted (slice_get table.channels port.channel) _ _ (plain-refuse_with _) (λ row. h port row))))
+      (plain-granted (slice_get (ports table) k) _ _ (plain-refuse_with _) (λ port. plain-granted (slice_get table.channels port.channel) _ _ (plain-refuse_with _) (h port))))
 
   abbrev sample_at : Port → (ℕ → Sample → PortOutcome) → End → PortOutcome
   sample_at port rest end = elim end [
@@ -32,7 +32,7 @@ module _ (table : Rows) (system : PortSystem) (now p : ℕ) where
 
   sample_at-plain : (port : Port) (rest : ℕ → Sample → PortOutcome) (end : End) → ((d : ℕ) (sample : Sample) → IsPlainOutcome (rest d sample)) → IsPlainOutcome (sample_at port rest end)
   sample_at-plain port rest source_end h = plain-refuse_with _
-  sample_at-plain port rest (destination_end d) h = plain-granted (channel_in system port.channel).sample _ _ (record { errno = refl; names = tt }) (λ sample. h d sample)
+  sample_at-plain port rest (destination_end d) h = plain-granted (channel_in system port.channel).sample _ _ (record { errno = refl; names = tt }) (h d)
 
   plain-sample : (port : Port) (rest : ℕ → Sample → PortOutcome) → ((d : ℕ) (sample : Sample) → IsPlainOutcome (rest d sample)) → IsPlainOutcome (on_sample system port rest)
   plain-sample port rest h = sample_at-plain port rest port.end h

@@ -38,7 +38,7 @@ call_step-plain table w p (call.Sampling c) v = plain-map (with_ports w) _ (plai
 call_step-plain table w p (call.SetMode m) v = set_mode-plain table w p m
 call_step-plain table w p (call.SetContext context) v = plain-accepted _ _ tt
 
--- no EIO is told where the test says so
+-- no errno is EIO where the test does not hold
 pub not-eio : (o : Option Errno) → tells_eio o ≡ false → o ≢ Some Eio
 not-eio o h e = let wrong : true ≡ false = ap tells_eio (sym e) ∙ h in cc
 

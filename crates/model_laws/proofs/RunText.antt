@@ -1,5 +1,5 @@
 -- What the replies of a run tell.
-use Rattle.std.proofs.Common.{◌≡◌, ℕ, ◌+◌, ◌≤◌, Bool, true, false, not, ◌&&◌, List, [], ◌∷◌, length, refl, sym, ap, ◌∙◌, arith, append-nil, suc}
+use Rattle.std.proofs.Common.{◌≡◌, ℕ, ◌+◌, ◌≤◌, Bool, true, false, not, ◌&&◌, List, [], ◌∷◌, ◌++◌, length, refl, sym, ap, ◌∙◌, arith, suc}
 use Rattle.std.specs.Prelude.{if◌then◌else◌, map, filter, count_by}
 use Rattle.std.specs.List.{AllByRecursion}
 use Rattle.std.proofs.lemmas.List.Sums.{sum_by-cons}
@@ -95,15 +95,14 @@ counted (told ∷ replies) h =
     ∙ ap (λ b. (if not b then 1 else 0) + count_by (λ line. not (is_fault_line line)) (map told_text replies)) h.0.not_ended
     ∙ (let more : 1 + count_by (λ line. not (is_fault_line line)) (map told_text replies) ≡ suc (length replies) = omega (arith, rest) in more)
 
-lines-are : (replies : List Told) → AllByRecursion ReplyLineTells replies → whole_lines (text_of replies) ≡ map told_text replies
-lines-are replies h = ap whole_lines (sym (append-nil (text_of replies))) ∙ whole_lines_are_replies replies [] (no_feeds replies h) refl
-
--- replies whose lines tell them are told by their text
-pub text-tells : (replies : List Told) → AllByRecursion ReplyLineTells replies → TextTells replies
-text-tells replies h = record {
-  failures = ap (λ (ts : List Text). map number_of_line (filter is_failed_line ts)) (lines-are replies h) ∙ failures replies h;
-  count = ap (λ (ts : List Text). count_by (λ line. not (is_fault_line line)) ts) (lines-are replies h) ∙ counted replies h;
-}
+-- replies whose lines tell them are told by their text, also with a part of a line after it
+pub text-tells : (replies : List Told) (part : Text) → AllByRecursion ReplyLineTells replies → HasNoFeed part → TextTells replies (text_of replies ++ part)
+text-tells replies part h none =
+    let lines : whole_lines (text_of replies ++ part) ≡ map told_text replies = whole_lines_are_replies replies part (no_feeds replies h) none in
+    record {
+      failures = ap (λ (ts : List Text). map number_of_line (filter is_failed_line ts)) lines ∙ failures replies h;
+      count = ap (λ (ts : List Text). count_by (λ line. not (is_fault_line line)) ts) lines ∙ counted replies h;
+    }
 
 pub text-tells_run : LogbookStepKeepsValid → TickKeepsValid → TextTellsRun
-text-tells_run books ticks table failed w lines good v are = text-tells (replies_to table failed w lines) (replies-tell books ticks table failed w lines good v are)
+text-tells_run books ticks table failed w lines good v are part none = text-tells (replies_to table failed w lines) part (replies-tell books ticks table failed w lines good v are) none

@@ -1,5 +1,5 @@
 -- What the text of a run's replies tells: which reads failed, and how many replies there are.
-use Rattle.std.specs.Prelude.{◌≡◌, ℕ, Bool, true, false, List, map, filter, length, Option, Some}
+use Rattle.std.specs.Prelude.{◌≡◌, ℕ, Bool, true, false, List, ◌++◌, map, filter, length, Option, Some}
 use Rattle.std.specs.List.{AllByRecursion}
 use Rattle.apex_types.specs.Rows.{Rows}
 use Rattle.apex_types.specs.declared.calls.Line.{Line}
@@ -43,13 +43,14 @@ ReplyLinesTell = (table : Rows) (failed : List ℕ) (w : World) (lines : List Li
     → IsAccepted table → IsValid table w → AllByRecursion (IsLineOf table) lines
     → AllByRecursion ReplyLineTells (replies_to table failed w lines)
 
--- The text of these replies tells in which lines reads failed, and how many replies there are.
-pub record TextTells (replies : List Told) : Type 0 where
-  pub failures : failed_in (text_of replies) ≡ failures_of replies
-  pub count : replies_in (text_of replies) ≡ length replies
+-- A text tells in which lines the reads of these replies failed, and how many replies there are.
+pub record TextTells (replies : List Told) (told : Text) : Type 0 where
+  pub failures : failed_in told ≡ failures_of replies
+  pub count : replies_in told ≡ length replies
 
--- so does the text of a run from a valid world
+-- so does the text of a run from a valid world, also with a part of a line after it
 abbrev pub TextTellsRun : Type 0
 TextTellsRun = (table : Rows) (failed : List ℕ) (w : World) (lines : List Line)
     → IsAccepted table → IsValid table w → AllByRecursion (IsLineOf table) lines
-    → TextTells (replies_to table failed w lines)
+    → (part : Text) → HasNoFeed part
+    → TextTells (replies_to table failed w lines) (text_of (replies_to table failed w lines) ++ part)

@@ -85,7 +85,8 @@ pub fn reply_lines_tell()
     tick_keeps_valid();
 }
 
-/// So the text of a run's replies tells which reads failed, and how many replies there are.
+/// So the text of a run's replies tells which reads failed, and how many replies there are, also with
+/// a part of a line after it.
 pub fn text_tells_run()
     ensures { TextTellsRun }
 {
