@@ -1,0 +1,5 @@
+pub mod Answers
+pub mod Calls
+pub mod Naming
+pub mod Serving
+pub mod Stored
