@@ -3,7 +3,6 @@ ghost use Rattle.std.specs.Prelude.{◌≡◌, ◌<◌, length, IfOk, IfErr, OnO
 ghost use Rattle.apex_model.specs.Accepted.{IsAccepted};
 ghost use Rattle.apex_model.specs.FileStep.{file_service, file_step};
 ghost use Rattle.apex_model.specs.FileSystem.{FileSystem};
-ghost use Rattle.apex_model.specs.Lines.{FileCallHasBytes};
 ghost use Rattle.apex_model.specs.Outcomes.{reply_of, state_after};
 ghost use Rattle.store_model.specs.Systems.{Stands, IsOfTable, IsServing};
 ghost use Rattle.service_parts.specs.Serving.{IsServed};
@@ -87,7 +86,6 @@ pub fn file_call<R: Rig>(
 ) -> Result<Reply, StepFault>
     requires accepted { IsAccepted table.now }
     requires caller { p.0 < length table.now.partitions }
-    requires bytes { FileCallHasBytes call.now }
     requires of_table { IsOfTable table.now trees.old handles.old }
     requires valid { IsServing table.now trees.old handles.old }
     ensures of_table { OnOk result (IsOfTable table.now trees.new handles.new) }

@@ -10,7 +10,6 @@ use Rattle.apex_types.specs.declared.replies.Values.{Values}
 use Rattle.apex_types.specs.declared.replies.Values.TheVariants.{Empty}
 use Rattle.apex_model.specs.Accepted.{IsAccepted}
 use Rattle.apex_model.specs.Layout.{logbook_blocks}
-use Rattle.apex_model.specs.Lines.{LogbookCallHasBytes}
 use Rattle.apex_model.specs.Logbooks.{Logbook, LogbookSystem, LogbookOutcome, empty_book, book_in, with_book, cleared, logbook_step}
 use Rattle.apex_model.specs.Outcomes.{accepted, success, bare_refusal, refuse_with, reply_of, state_after}
 use Rattle.rig_core.specs.declared.source.DeviceFault.{DeviceFault}
@@ -185,12 +184,12 @@ clear-served V table step logs made new_logs k o e result is told any_moment out
 
 -- a call that is served keeps the logbooks valid
 pub served-serving : (V : Type 0) (table : Rows) (p : ℕ) (mode : Mode) (call : LogbookCall) (logs : List Book) (made : List Bool) (new_logs : List Book) (new_made : List Bool) (o e : Outside) (result : Result Reply DeviceFault)
-    → IsAccepted table → LogbookCallHasBytes call → (V → IsServing table logs made o.view)
+    → IsAccepted table → (V → IsServing table logs made o.view)
     → IsServed V table (λ system. logbook_step table system p mode call) logs made new_logs new_made o e result → V → OnOk result (IsServing table new_logs new_made e.view)
-served-serving V table p mode call logs made new_logs new_made o e result good bytes valid served tells =
+served-serving V table p mode call logs made new_logs new_made o e result good valid served tells =
     let was = valid tells in
     on_ok result (λ stands. (
       state_after was.0 (logbook_step table was.0 p mode call),
       stands,
-      logbook_step-valid table was.0 was.2 (λ k row is. has_progress table good k row is) p mode call bytes,
+      logbook_step-valid table was.0 was.2 (λ k row is. has_progress table good k row is) p mode call,
     )) (served.state was.0 tells was.1)

@@ -1,7 +1,6 @@
 // The calls of logbooks.
 ghost use Rattle.std.specs.Prelude.{◌≡◌, ◌⊎◌, ℕ, List, length, IfOk, OnOk, OnErr, MatchResult};
 ghost use Rattle.apex_model.specs.Accepted.{IsAccepted};
-ghost use Rattle.apex_model.specs.Lines.{LogbookCallHasBytes};
 ghost use Rattle.apex_model.specs.Logbooks as logbooks;
 ghost use Rattle.apex_model.specs.Logbooks.{LogbookSystem, logbook_service, logbook_step};
 ghost use Rattle.apex_model.specs.Outcomes.{bare_refusal, reply_of, state_after};
@@ -320,7 +319,6 @@ pub fn logbook_call<R: Rig>(
     call: &LogbookCall,
 ) -> Result<Reply, DeviceFault>
     requires accepted { IsAccepted table.now }
-    requires bytes { LogbookCallHasBytes call.now }
     requires of_table { IsOfTable table.now logs.old made.old }
     requires laid_out { AreLaidOut (sites_of logs.old) (R.state rig.old).size }
     requires settled { AreSettled (sites_of logs.old) (R.state rig.old) }

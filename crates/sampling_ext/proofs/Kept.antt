@@ -10,7 +10,6 @@ use Rattle.apex_types.specs.declared.replies.Reply.{Reply}
 use Rattle.apex_types.specs.declared.rows.ChannelRow.{ChannelRow}
 use Rattle.apex_model.specs.Channels.{Sample, Channel, PortSystem, sampling_service}
 use Rattle.apex_model.specs.Durable.{unused_channel}
-use Rattle.apex_model.specs.Lines.{SamplingCallHasBytes}
 use Rattle.apex_model.specs.Logbooks.{is_idle}
 use Rattle.apex_model.specs.Outcomes.{state_after, refuse_if_with}
 use Rattle.apex_model.specs.Tables.{Port, ports}
@@ -29,20 +28,20 @@ serving-of_table table now held serving = record {
   channels = ap (λ (s : PortSystem). length s.channels) serving.1.kept ∙ AllZip-long (IsValidChannel now) table.channels serving.0.channels serving.2.channels;
 }
 
-service-valid : (table : Rows) (now : ℕ) (system : PortSystem) (p : ℕ) (mode : Mode) (call : SamplingCall) → is_idle mode ≡ false → SamplingCallHasBytes call → IsValidPorts table now system
+service-valid : (table : Rows) (now : ℕ) (system : PortSystem) (p : ℕ) (mode : Mode) (call : SamplingCall) → is_idle mode ≡ false → IsValidPorts table now system
     → IsValidPorts table now (state_after system (sampling_service table system now p mode call))
-service-valid table now system p mode call e bytes v =
+service-valid table now system p mode call e v =
     let P : Bool → Type 0 = λ b. IsValidPorts table now (state_after system (refuse_if_with b InvalidMode (sampling_service table system now p mode call))) in
-    subst P e (sampling_step-valid table now system v p mode call bytes)
+    subst P e (sampling_step-valid table now system v p mode call)
 
 -- a call that is served keeps the ports valid
-pub served-serving : (table : Rows) (now : ℕ) (old new : PortsValue) (told : Reply) (p : ℕ) (mode : Mode) (call : SamplingCall) → is_idle mode ≡ false → SamplingCallHasBytes call
+pub served-serving : (table : Rows) (now : ℕ) (old new : PortsValue) (told : Reply) (p : ℕ) (mode : Mode) (call : SamplingCall) → is_idle mode ≡ false
     → IsServing table now old → IsServed (sampling_service table old.system now p mode call) old new told → IsServing table now new
-served-serving table now old new told p mode call e bytes serving served =
+served-serving table now old new told p mode call e serving served =
     let P : PortSystem → Type 0 = λ s. IsValidPorts table now s in (
       state_after old.system (sampling_service table old.system now p mode call),
       record { listed = ap (λ (h : PortsValue). h.ports) served.state ∙ serving.1.listed; kept = ap (λ (h : PortsValue). h.system) served.state },
-      service-valid table now old.system p mode call e bytes (subst P (sym serving.1.kept) serving.2),
+      service-valid table now old.system p mode call e (subst P (sym serving.1.kept) serving.2),
     )
 
 abbrev system_with : List Channel → List Bool → PortSystem

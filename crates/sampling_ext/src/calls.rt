@@ -4,7 +4,6 @@ ghost use Rattle.apex_types.specs.Rows.{Rows};
 ghost use Rattle.apex_model.specs.Accepted.{IsAccepted};
 ghost use Rattle.apex_model.specs.Channels as channels;
 ghost use Rattle.apex_model.specs.Channels.{PortSystem, Sample, channel_in, sampling_service, sampling_step};
-ghost use Rattle.apex_model.specs.Lines.{SamplingCallHasBytes};
 ghost use Rattle.apex_model.specs.Logbooks.{is_normal as is_normal_mode, is_idle as is_idle_mode};
 ghost use Rattle.apex_model.specs.Outcomes.{bare_refusal, accepted, reply_of, state_after};
 ghost use Rattle.service_parts.specs.Told.{IsTellable};
@@ -314,7 +313,6 @@ pub fn sampling_call(
     call: &SamplingCall,
 ) -> Reply
     requires accepted { IsAccepted table.now }
-    requires bytes { SamplingCallHasBytes call.now }
     requires valid { IsServing table.now now ports.old }
     ensures valid { IsServing table.now now ports.new }
     ensures reply { (system : PortSystem) → Stands table.now ports.old system → result ≡ reply_of (sampling_step table.now system now p.0 mode call.now) }

@@ -1,6 +1,5 @@
 ghost use Rattle.std.specs.Prelude.{◌≡◌, IfOk};
 ghost use Rattle.apex_model.specs.Accepted.{IsAccepted};
-ghost use Rattle.apex_model.specs.Lines.{SamplingCallHasBytes};
 
 use crate::{Ports, sampling_call};
 use apex_types::{
@@ -98,16 +97,12 @@ fn three_partitions(alloc: Global) -> Result<Table, OutOfMemory>
     Ok(table)
 }
 
-fn write_call(alloc: Global, id: u32, bytes: &[u8]) -> Result<SamplingCall, OutOfMemory>
-    ensures { IfOk result SamplingCallHasBytes }
-{
+fn write_call(alloc: Global, id: u32, bytes: &[u8]) -> Result<SamplingCall, OutOfMemory> {
     let bytes = Token::read(alloc, bytes)?;
     Ok(SamplingCall::Write { id, bytes })
 }
 
-fn call_of(alloc: Global, act: Act<'_>) -> Result<SamplingCall, OutOfMemory>
-    ensures { IfOk result SamplingCallHasBytes }
-{
+fn call_of(alloc: Global, act: Act<'_>) -> Result<SamplingCall, OutOfMemory> {
     match act {
         Act::Create(name) => {
             let name = Token::read(alloc, name)?;

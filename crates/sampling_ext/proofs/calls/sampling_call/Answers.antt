@@ -9,4 +9,4 @@ serve-requires-clause-of_table c = serving-of_table c.args.table.now c.args.now 
 pub returns-clause-valid : goal.returns-clause-valid
 returns-clause-valid c =
     served-serving c.args.table.now c.args.now c.args.ports.now c.serve.new.ports c.serve.result c.args.p.0 c.args.mode c.args.call.now (sym c.is_idle.ensures ∙ c.if-is_idle.false)
-    c.requires.bytes c.requires.valid c.serve.ensures
+    c.requires.valid c.serve.ensures
