@@ -1,26 +1,14 @@
 //! The program: files, standard input and standard output as the outside of the host.
 #![tactic(auto)]
 
-mod arguments;
-mod disk_file;
-mod file_rig;
-mod file_source;
-mod input_source;
-mod reading;
-mod streams;
-
 use apex_host::{Status, host};
-use arguments::command_words;
-use file_rig::FileRig;
-use file_source::FileSource;
-use input_source::InputSource;
 use std::fs::OpenFile;
 use std::io;
 use std::io::Read;
 use std::os::unix::fs::FileExt;
 use std::process::ExitCode;
 use std::rt::{Env, Files};
-use streams::StreamHolders;
+use system_adapters::{FileRig, FileSource, InputSource, StreamHolders, command_words};
 
 /// The module table's file, in the present folder.
 const TABLE_FILE: &str = "module.toml";

@@ -1,0 +1,13 @@
+//! Tests of the adapters, over real files and over faked ones.
+#![tactic(auto)]
+
+#[cfg(test)]
+mod arguments;
+#[cfg(test)]
+mod disks;
+#[cfg(test)]
+mod outputs;
+#[cfg(test)]
+mod paths;
+#[cfg(test)]
+mod sources;

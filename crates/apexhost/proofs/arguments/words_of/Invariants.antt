@@ -1,6 +1,0 @@
-use Rattle.std.proofs.Common.{◌≡◌, map, string_bytes}
-use Rattle.apexhost.proofs.arguments.words_of.Given as goal
-
--- the words are those that were pushed
-abbrev pub invariant-loop-argument : goal.invariant-loop-argument
-invariant-loop-argument l = l.words ≡ map string_bytes l.yielded
