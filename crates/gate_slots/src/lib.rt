@@ -6,6 +6,3 @@ mod slots;
 
 pub use gate::{gate_read, gate_set, gate_write, write_settled};
 pub use slots::Slots;
-
-#[cfg(test)]
-mod tests;

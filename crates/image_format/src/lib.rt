@@ -15,6 +15,3 @@ pub use messages::{message_at, put_message};
 pub use places::Layout;
 pub use records::{put_record, record_at};
 pub use tables::layout;
-
-#[cfg(test)]
-mod tests;

@@ -11,7 +11,7 @@ use std::marker::Model;
 
 /// The places of an image, in blocks of 512 bytes: the first block of each tree and logbook, and the
 /// blocks of each tree's body.
-#[derive(Debug, Drop)]
+#[derive(Drop)]
 pub struct Layout {
     tree_places: ArrayVec<u32, 32>,
     body_sizes: ArrayVec<u32, 32>,

@@ -164,6 +164,3 @@ impl Journal {
         Ok(())
     }
 }
-
-#[cfg(test)]
-mod tests;

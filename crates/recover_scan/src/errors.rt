@@ -2,7 +2,7 @@
 use thiserror::Error;
 
 /// Why a device is not formatted.
-#[derive(Clone, Copy, Debug, PartialEq, Eq, Error)]
+#[derive(Clone, Copy, Debug, Error)]
 pub enum FormatError {
     /// The device has fewer bytes than the table's image. Nothing was written.
     #[error("the device is too small: {wanted} bytes are wanted")]

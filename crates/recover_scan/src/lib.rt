@@ -13,6 +13,3 @@ mod superblock;
 pub use errors::{FormatError, MountError};
 pub use formatting::format;
 pub use superblock::read_superblock;
-
-#[cfg(test)]
-mod tests;

@@ -56,7 +56,7 @@ pub fn rig_of(alloc: Global, image: &[u8], failing: FailList) -> Result<MemRig, 
     MemRig::new(alloc, image, failing, RECORDS)
 }
 
-/// The disk as it is found after a power cut behind so many of the recorded calls. No call on it fails.
+/// The disk that is found where power failed after so many of the recorded calls. No call on it fails.
 pub fn after_cut(
     alloc: Global,
     rig: &MemRig,

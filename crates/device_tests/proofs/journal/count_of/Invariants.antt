@@ -1,7 +1,7 @@
 use Rattle.std.proofs.Common.{◌≡◌, ◌≤◌}
 use Rattle.rig_core.specs.MemRig.{mem_state}
 use Rattle.meta_journal.specs.Journal.{first_of}
-use Rattle.meta_journal.proofs.tests.count_of.Given as goal
+use Rattle.device_tests.proofs.journal.count_of.Given as goal
 
 abbrev pub invariant-loop-count : goal.invariant-loop-count
 invariant-loop-count l = record {

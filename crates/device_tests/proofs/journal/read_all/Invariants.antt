@@ -1,7 +1,7 @@
 use Rattle.std.proofs.Common.{◌≡◌}
 use Rattle.rig_core.specs.Outside.{OnlyReads}
 use Rattle.meta_journal.specs.Journal.{first_of, HasRead}
-use Rattle.meta_journal.proofs.tests.read_all.Given as goal
+use Rattle.device_tests.proofs.journal.read_all.Given as goal
 
 abbrev pub invariant-loop-count : goal.invariant-loop-count
 invariant-loop-count g l = record {
