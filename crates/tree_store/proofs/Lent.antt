@@ -1,17 +1,14 @@
 -- One tree of several is lent out for a call.
-use Rattle.std.proofs.Common.{◌≡◌, ℕ, zero, suc, ◌+◌, ◌<◌, ◌≤◌, List, [], ◌∷◌, length, Option, Some, None, refl, sym, ap, subst, ◌∙◌, arith}
+use Rattle.std.proofs.Common.{◌≡◌, ℕ, zero, suc, List, [], ◌∷◌, length, Option, Some, refl, sym, ap, subst, ◌∙◌}
 use Rattle.std.specs.Prelude.{Err, Ok, OnOk, Result, get_or, map, slice_get, slice_set}
 use Rattle.std.specs.List.{AllZip}
 use Rattle.std.proofs.lemmas.Option.{get_or_from_slice_get, slice_get_read}
 use Rattle.apex_types.specs.declared.codes.Errno.{Errno}
-use Rattle.apex_model.specs.Files.{File}
-use Rattle.apex_model.specs.Trees.{Tree}
 use Rattle.rig_core.specs.Outside.{Later, OnlyReads, Outside, Sound, Speaks}
 use Rattle.rig_core.specs.declared.source.DeviceFault.{DeviceFault}
 use Rattle.rig_core.proofs.Moments.{elsewhere_wider, leaves_elsewhere_wider}
-use Rattle.rig_core.specs.Runs.{Runs, Shows}
-use Rattle.rig_core.specs.Windows.{AreLaidOut, AreWithin}
-use Rattle.store_model.specs.Betweens.{AreTreesBetween, tree_long}
+use Rattle.rig_core.specs.Windows.{AreLaidOut}
+use Rattle.store_model.specs.Betweens.{tree_long}
 use Rattle.store_model.specs.Standing.{IsTree}
 use Rattle.store_model.specs.Stores.{StoreValue}
 use Rattle.store_model.specs.Systems.{no_store, store_at}

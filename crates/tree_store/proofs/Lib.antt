@@ -12,7 +12,6 @@ pub mod Now
 pub mod Over
 pub mod Removed
 pub mod Renamed
-pub mod Spelled
 pub mod Stays
 pub mod Summed
 pub mod Synchronised

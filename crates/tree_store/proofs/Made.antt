@@ -1,13 +1,12 @@
 -- What a new file, a new directory and one directory less make of what a store holds.
-use Rattle.std.proofs.Common.{◌≡◌, ◌≢◌, ℕ, ◌-◌, ◌≤◌, List, [], ◌∷◌, length, refl, sym, ap, subst, ◌∙◌, Option, Some, None, arith}
+use Rattle.std.proofs.Common.{◌≡◌, ℕ, ◌-◌, ◌≤◌, List, [], ◌∷◌, length, refl, sym, ap, subst, ◌∙◌, Option, Some, None, arith}
 use Rattle.std.proofs.lemmas.List.{length-set}
 use Rattle.std.specs.Prelude.{unwrap_or}
 use Rattle.apex_types.specs.declared.codes.Errno.{Errno}
 use Rattle.apex_types.specs.declared.codes.Errno.TheVariants.{Enospc, Enotempty}
-use Rattle.apex_model.specs.Durable.{StoredFile}
 use Rattle.apex_model.specs.Handles.{free_from}
-use Rattle.apex_model.specs.Trees.{Name, Node, Tree, directory, entries_within, file, with_node, without_node}
-use Rattle.file_tree.specs.Entries.{IsConsistent, TreeValue, path_in, slot, way_of, with_directory, with_file, without_directory}
+use Rattle.apex_model.specs.Trees.{Name, Node, directory, entries_within, file, with_node, without_node}
+use Rattle.file_tree.specs.Entries.{IsConsistent, TreeValue, path_in, way_of, with_directory, with_file, without_directory}
 use Rattle.rig_core.specs.Outside.{Outside}
 use Rattle.state_names.proofs.Applies.{moved-kept, unused-slot}
 use Rattle.state_names.specs.Entries.{empty_file}

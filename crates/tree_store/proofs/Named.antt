@@ -1,11 +1,9 @@
 -- What changes of names make of what a cut leaves of a value.
-use Rattle.std.proofs.Common.{◌≡◌, ◌≢◌, ℕ, T, List, [], refl, sym, ap, subst, ◌∙◌, Option, Some, None}
-use Rattle.std.specs.FinMap.Entries.{find, is_sorted}
+use Rattle.std.proofs.Common.{◌≡◌, ℕ, List, [], ap, ◌∙◌, None}
 use Rattle.apex_model.specs.Durable.{StoredFile}
-use Rattle.apex_model.specs.Trees.{Name, Node, directory, file, Tree, path_cmp, with_node, without_node}
-use Rattle.file_tree.specs.Entries.{TreeValue, slot, with_file, with_directory, without_directory, with_file_at}
-use Rattle.file_tree.proofs.Paths.{sorted_nodes}
-use Rattle.store_model.specs.Stores.{KeptFile, StoreValue, nothing_kept, kept_at, durable_node, durable_of, with_names, IsSound}
+use Rattle.apex_model.specs.Trees.{Name, directory, file, Tree, with_node, without_node}
+use Rattle.file_tree.specs.Entries.{slot, with_file, with_directory, without_directory, with_file_at}
+use Rattle.store_model.specs.Stores.{KeptFile, StoreValue, kept_at, durable_node, durable_of, with_names, IsSound}
 use Rattle.tree_store.proofs.Over.{over-put, over-without}
 
 -- a file that was never written

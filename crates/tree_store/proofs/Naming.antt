@@ -1,5 +1,5 @@
 -- What every change of names makes of a stored tree.
-use Rattle.std.proofs.Common.{◌≡◌, ◌⊎◌, inl, inr, ⊎_elim, ℕ, ◌+◌, ◌*◌, ◌<◌, ◌≤◌, true, false, cond, List, length, refl, sym, ap, subst, ◌∙◌, Option, Some, None, arith}
+use Rattle.std.proofs.Common.{◌≡◌, ◌⊎◌, inl, inr, ⊎_elim, ℕ, ◌+◌, ◌*◌, ◌<◌, ◌≤◌, true, false, cond, List, length, refl, sym, ap, subst, ◌∙◌, Some, None, arith}
 use Rattle.std.specs.Prelude.{◌==◌, ◌&&◌, nat_lt}
 use Rattle.std.proofs.lemmas.Bool.{false≢true}
 use Rattle.std.proofs.lemmas.Bool.Decides.{nat_tests}
@@ -19,11 +19,10 @@ use Rattle.tree_state.specs.Stored.{IsTreeOf, SameContents, durable_tree}
 use Rattle.tree_state.specs.declared.state.TreeState.{TreeState}
 use Rattle.state_names.specs.Names.{ChangesTree}
 use Rattle.state_names.proofs.States.{nothing-changed}
-use Rattle.rig_core.specs.Runs.{Runs, Shows}
 use Rattle.store_model.specs.Betweens.{tree_long}
 use Rattle.store_model.specs.Stores.{StoreValue, durable_of, with_names}
 use Rattle.tree_store.specs.Answers.{Acts, Passes, name_calls}
-use Rattle.tree_store.specs.Stored.{AreSpelled, Holds, IsBetween, IsStored, has_room, names_of, row_of, site_of, start_of}
+use Rattle.tree_store.specs.Stored.{AreSpelled, Holds, IsBetween, IsStored, has_room, row_of, site_of, start_of}
 use Rattle.tree_store.specs.declared.store.TreeStore.{TreeStore}
 
 -- slots are a part of the region

@@ -1,12 +1,10 @@
 -- What a cut now leaves of a tree that a store stands for, and what a call of one tree leaves of several.
-use Rattle.std.proofs.Common.{◌≡◌, ◌≢◌, inl, inr, ⊎_elim, ◌⊎◌, ℕ, zero, suc, ◌+◌, ◌≤◌, List, [], ◌∷◌, length, Some, refl, sym, ap, subst, ◌∙◌, arith}
+use Rattle.std.proofs.Common.{◌≡◌, inl, inr, ⊎_elim, ℕ, zero, suc, List, [], ◌∷◌, Some, refl, sym, ap, subst, ◌∙◌, arith}
 use Rattle.std.proofs.lemmas.Bool.{cases_eq}
-use Rattle.std.proofs.lemmas.List.{get_or-set_other}
 use Rattle.std.specs.Prelude.{slice_get, slice_set, map}
-use Rattle.std.specs.List.{AllByRecursion, AllZip}
+use Rattle.std.specs.List.{AllZip}
 use Rattle.apex_model.specs.Durable.{StoredFile}
 use Rattle.apex_model.specs.Files.{File}
-use Rattle.apex_model.specs.Image.{tree_of_region}
 use Rattle.apex_model.specs.Trees.{Tree}
 use Rattle.rig_core.specs.Bytes.{SameElsewhere}
 use Rattle.rig_core.specs.Leaves.{FromNow}
@@ -19,7 +17,7 @@ use Rattle.rig_core.proofs.Beside.{laid_apart}
 use Rattle.store_model.specs.Betweens.{TreeSite, IsTreeAt, AreTreesBetween, tree_long}
 use Rattle.apex_model.specs.Firsts.{first_tree}
 use Rattle.store_model.specs.Standing.{IsTree}
-use Rattle.store_model.specs.Stores.{StoreValue, durable_of}
+use Rattle.store_model.specs.Stores.{StoreValue}
 use Rattle.store_model.proofs.Firsts.{durable-first}
 use Rattle.tree_store.specs.Answers.{Acts, Passes}
 use Rattle.tree_store.specs.Serving.{AreStored, AllHold, sites_of, window_of}
@@ -75,28 +73,28 @@ module _ (V K : Type 0) (o e : Outside) (sound : Sound V K o) (trees : List Tree
   between from image same one others j site c d at was next =
       let place = place_of V o trees stores before j site c stored hold stand at was in
       ⊎_elim
-        (λ equal.
-          let store_is : s ≡ place.store = let found : slice_get trees k ≡ Some place.store = ap (slice_get trees) (sym equal) ∙ place.there in let e : Some s ≡ Some place.store = sym here ∙ found in cc in
-          let site_is : site_of s ≡ site = ap site_of store_is ∙ sym place.site_is in
-          let c_is : b ≡ c = let found : slice_get before k ≡ Some c = ap (slice_get before) (sym equal) ∙ was in let e : Some b ≡ Some c = sym was_here ∙ found in cc in
-          let d_is : d ≡ a = set_at before k j a d next equal in
-          ⊎_elim
-            (λ left. inl (subst (λ (p : TreeSite). IsTreeAt p (first_tree c) image) site_is (left ∙ ap (λ (t : Tree StoredFile). Some t) (durable-first v b is) ∙ ap (λ (t : Tree File). Some (first_tree t)) c_is)))
-            (λ right. inr (subst (λ (p : TreeSite). IsTreeAt p (first_tree d) image) site_is (right ∙ ap (λ (t : Tree StoredFile). Some t) (durable-first w a will) ∙ ap (λ (t : Tree File). Some (first_tree t)) (sym d_is))))
-            one)
-        (λ differ. inl (
-          let apart = laid_apart (map window_of (sites_of trees)) o.size j k (start_of place.store, tree_long (site_of place.store)) (start_of s, tree_long (site_of s)) laid differ (window_at trees j place.store place.there) (window_at trees k s here) in
-          let kept : IsTreeAt (site_of place.store) (first_tree c) from = subst (λ (p : TreeSite). IsTreeAt p (first_tree c) from) place.site_is (others j site c place) in
-          subst (λ (p : TreeSite). IsTreeAt p (first_tree c) image) (sym place.site_is)
-          ((tree_speaks (site_of place.store) (first_tree c)).told_by from image same.long (within_from_elsewhere (start_of place.store) (tree_long (site_of place.store)) (start_of s) (tree_long (site_of s)) from image apart same) kept)))
-        (cases_eq j k)
+      (λ equal.
+      let store_is : s ≡ place.store = let found : slice_get trees k ≡ Some place.store = ap (slice_get trees) (sym equal) ∙ place.there in let e : Some s ≡ Some place.store = sym here ∙ found in cc in
+      let site_is : site_of s ≡ site = ap site_of store_is ∙ sym place.site_is in
+      let c_is : b ≡ c = let found : slice_get before k ≡ Some c = ap (slice_get before) (sym equal) ∙ was in let e : Some b ≡ Some c = sym was_here ∙ found in cc in
+      let d_is : d ≡ a = set_at before k j a d next equal in
+      ⊎_elim
+      (λ left. inl (subst (λ (p : TreeSite). IsTreeAt p (first_tree c) image) site_is (left ∙ ap (λ (t : Tree StoredFile). Some t) (durable-first v b is) ∙ ap (λ (t : Tree File). Some (first_tree t)) c_is)))
+      (λ right. inr (subst (λ (p : TreeSite). IsTreeAt p (first_tree d) image) site_is (right ∙ ap (λ (t : Tree StoredFile). Some t) (durable-first w a will) ∙ ap (λ (t : Tree File). Some (first_tree t)) (sym d_is))))
+      one)
+      (λ differ. inl (
+      let apart = laid_apart (map window_of (sites_of trees)) o.size j k (start_of place.store, tree_long (site_of place.store)) (start_of s, tree_long (site_of s)) laid differ (window_at trees j place.store place.there) (window_at trees k s here) in
+      let kept : IsTreeAt (site_of place.store) (first_tree c) from = subst (λ (p : TreeSite). IsTreeAt p (first_tree c) from) place.site_is (others j site c place) in
+      subst (λ (p : TreeSite). IsTreeAt p (first_tree c) image) (sym place.site_is)
+      ((tree_speaks (site_of place.store) (first_tree c)).told_by from image same.long (within_from_elsewhere (start_of place.store) (tree_long (site_of place.store)) (start_of s) (tree_long (site_of s)) from image apart same) kept)))
+      (cases_eq j k)
 
   -- at every moment each tree is as before or as after, by itself
   pub one_passes : Passes V s v w o e → Shows V (AreTreesBetween (sites_of trees) before (slice_set before k a)) o e
   one_passes passes = record {
     any_moment = λ tells. leaves_weaker (λ image. IsBetween (site_of s) v w image × FromNow (start_of s) (tree_long (site_of s)) o image) (AreTreesBetween (sites_of trees) before (slice_set before k a)) o e
         (λ image has. let from = has.1 in between from.0 image from.3 has.0 (λ j site tree place. subst (λ (p : TreeSite). IsTreeAt p (first_tree tree) from.0) (sym place.site_is)
-          (tree_now V K o sound place.store place.stored place.value place.holds tree place.is from.0 from.1 from.2)))
+        (tree_now V K o sound place.store place.stored place.value place.holds tree place.is from.0 from.1 from.2)))
         (leaves_both (IsBetween (site_of s) v w) (FromNow (start_of s) (tree_long (site_of s)) o) o e (passes.any_moment tells) acts.runs.outside);
     shown = λ tells. between o.view e.view (acts.runs.outside_view tells) (passes.shown tells) (λ j site tree place. subst (λ (p : TreeSite). IsTreeAt p (first_tree tree) o.view) (sym place.site_is)
         (tree_shown V K o sound place.store place.stored place.value place.holds tree place.is tells));

@@ -1,12 +1,11 @@
 -- What the removal of a file makes of what a store holds.
-use Rattle.std.proofs.Common.{◌≡◌, ◌≢◌, inl, inr, ⊎_elim, ℕ, ◌<◌, ◌≤◌, T, List, [], length, take, refl, sym, ap, subst, ◌∙◌, Option, Some, None, arith}
+use Rattle.std.proofs.Common.{◌≡◌, ◌≢◌, ⊎_elim, ℕ, ◌<◌, T, List, [], length, take, refl, sym, ap, subst, ◌∙◌, Option, Some, None, arith}
 use Rattle.std.proofs.lemmas.Bool.{cases_eq}
 use Rattle.std.proofs.lemmas.List.{get_or-set_other, get_or-set_same, length-set}
 use Rattle.std.specs.FinMap.Entries.{find, is_sorted}
 use Rattle.std.specs.Prelude.{slice_index_or, slice_set, sum_by}
 use Rattle.apex_types.specs.declared.numbers.FileNode.{FileNode}
 use Rattle.apex_model.specs.Durable.{StoredFile}
-use Rattle.apex_model.specs.Files.{Content}
 use Rattle.apex_model.specs.Trees.{Name, Node, Tree, directory, file, path_cmp, without_node}
 use Rattle.block_quota.specs.Quota.{with_charge}
 use Rattle.file_tree.specs.Entries.{IsConsistent, Place, TreeValue, in_directory, in_file, node_at, path_at, slot, without_file}
@@ -15,7 +14,6 @@ use Rattle.file_tree.proofs.Paths.{found_stands, sorted_nodes}
 use Rattle.present_files.specs.Present.{changes_in, content_of, never_changed, size_in}
 use Rattle.present_files.specs.declared.present.PresentSize.{PresentSize}
 use Rattle.rig_core.specs.Outside.{Outside}
-use Rattle.state_names.proofs.Applies.{set-either}
 use Rattle.tree_changes.specs.InStep.{data_at}
 use Rattle.tree_state.specs.State.{IsState}
 use Rattle.tree_state.specs.Stored.{durable_tree}

@@ -1,11 +1,11 @@
 -- What another name of a file makes of what a store holds.
-use Rattle.std.proofs.Common.{◌≡◌, ℕ, ◌≤◌, List, [], ◌∷◌, length, refl, sym, ap, subst, ◌∙◌, Option, Some, None, arith}
+use Rattle.std.proofs.Common.{◌≡◌, ℕ, List, [], ◌∷◌, sym, ap, subst, ◌∙◌, Option, Some, None, arith}
 use Rattle.std.proofs.lemmas.List.{length-set}
 use Rattle.std.specs.Prelude.{option_map}
 use Rattle.std.specs.FinMap.Entries.{find}
 use Rattle.apex_types.specs.declared.numbers.FileNode.{FileNode}
 use Rattle.apex_model.specs.Durable.{StoredFile}
-use Rattle.apex_model.specs.Trees.{Name, Node, Tree, directory, file, path_cmp, standing_at, with_node, without_node}
+use Rattle.apex_model.specs.Trees.{Name, Node, Tree, file, path_cmp, standing_at, with_node, without_node}
 use Rattle.file_tree.specs.Entries.{IsConsistent, TreeValue, in_file, path_in, slot, with_file_at}
 use Rattle.file_tree.proofs.Paths.{at_found}
 use Rattle.rig_core.specs.Outside.{Outside}

@@ -1,5 +1,5 @@
 -- One tree of several acts, and the others stay.
-use Rattle.std.proofs.Common.{◌≡◌, ◌≢◌, ℕ, zero, suc, ◌+◌, ◌≤◌, List, [], ◌∷◌, length, Some, refl, sym, ap, subst, ◌∙◌, arith}
+use Rattle.std.proofs.Common.{◌≡◌, ◌≢◌, ℕ, zero, suc, List, [], ◌∷◌, Some, refl, sym, ap, subst, ◌∙◌, arith}
 use Rattle.std.specs.Prelude.{slice_get, slice_set, slice_index_or, map}
 use Rattle.std.specs.List.{AllByRecursion, AllZip}
 use Rattle.rig_core.specs.Outside.{Outside, Sound}
@@ -80,6 +80,6 @@ module _ (V K : Type 0) (o e : Outside) (sound : Sound V K o) (sound_after : Sou
   pub all_hold : AreStored V o trees → (stores : List StoreValue) (w : StoreValue) → AllHold V o trees stores → Holds V e new w → AllHold V e (slice_set trees k new) (slice_set stores k w)
   all_hold stored stores w hold one = zip_step (Holds V o) (Holds V e) trees stores k new w hold
       (λ j t v differ there was. holds_stays V K o e sound sound_after t (stored_in (IsStored V o) trees j t stored there) (other-stays j t differ there) v was) one
-    
+
   pub all_sites : sites_of (slice_set trees k new) ≡ sites_of trees
   all_sites = sites_set trees k s new here acts.site

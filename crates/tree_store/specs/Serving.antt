@@ -1,5 +1,5 @@
 -- When stored trees and handles stand for a file system, and what a call to the services comes to.
-use Rattle.std.specs.Prelude.{◌≡◌, ◌⊎◌, ℕ, ◌+◌, ◌*◌, ◌≤◌, List, [], ◌∷◌, map, length, Result, Ok, Err, IfOk, OnOk, OnErr}
+use Rattle.std.specs.Prelude.{◌≡◌, ◌⊎◌, ℕ, ◌+◌, ◌*◌, List, [], ◌∷◌, map, length, Result, IfOk, OnOk, OnErr}
 use Rattle.std.specs.List.{AllByRecursion, AllZip}
 use Rattle.apex_types.specs.Rows.{Rows}
 use Rattle.apex_types.specs.declared.codes.Errno.TheVariants.{Eio}

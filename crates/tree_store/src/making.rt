@@ -34,8 +34,6 @@ impl TreeStore {
         ensures acts { Acts R.tells_view 4 3 (R.state rig.old) (R.state rig.new) self.old self.new }
         ensures rises { RisesBy R.keeps_cuts (R.state rig.old) (R.state rig.new) self.old result }
     {
-        // what holds of every name
-        let _spelled = name.bytes();
         match state_names::make_file(&mut self.state, rig, &self.row, self.start, parent, name) {
             Ok(file) => {
                 self.state.kept.tree.stand();
@@ -69,8 +67,6 @@ impl TreeStore {
         ensures acts { Acts R.tells_view 4 3 (R.state rig.old) (R.state rig.new) self.old self.new }
         ensures rises { RisesBy R.keeps_cuts (R.state rig.old) (R.state rig.new) self.old result }
     {
-        // what holds of every name
-        let _spelled = name.bytes();
         match state_names::make_dir(&mut self.state, rig, &self.row, self.start, parent, name) {
             Ok(directory) => {
                 self.state.kept.tree.stand();

@@ -14,7 +14,11 @@ impl TreeStore {
 
     /// Removes a directory other than the root, durably; its entry is unused from then on. ENOTEMPTY comes where
     /// something stands in it, and nothing changes then. After a fault of the device the store is of no use.
-    pub fn remove_dir<R: Rig>(&mut self, rig: &mut R, directory: DirNode) -> Result<(), StoreRefusal>
+    pub fn remove_dir<R: Rig>(
+        &mut self,
+        rig: &mut R,
+        directory: DirNode,
+    ) -> Result<(), StoreRefusal>
         requires stored { IsStored R.tells_view (R.state rig.old) self.old }
         requires below_root { directory.0 ≢ 0 }
         requires in_use { HasDirectory self.old directory.0 }

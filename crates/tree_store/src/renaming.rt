@@ -31,9 +31,15 @@ impl TreeStore {
         ensures acts { Acts R.tells_view 4 3 (R.state rig.old) (R.state rig.new) self.old self.new }
         ensures rises { RisesBy R.keeps_cuts (R.state rig.old) (R.state rig.new) self.old result }
     {
-        // what holds of every name
-        let _spelled = name.bytes();
-        state_names::rename(&mut self.state, rig, &self.row, self.start, file, parent, name)?;
+        state_names::rename(
+            &mut self.state,
+            rig,
+            &self.row,
+            self.start,
+            file,
+            parent,
+            name,
+        )?;
         self.state.kept.tree.stand();
         Ok(())
     }

@@ -1,17 +1,11 @@
-use Rattle.std.proofs.Common.{◌≡◌, ℕ, ◌+◌, ◌-◌, ◌≤◌, List, Option, Some, None, refl, sym, ap, subst, ◌∙◌, arith}
-use Rattle.std.specs.Prelude.{unwrap_or}
+use Rattle.std.proofs.Common.{◌≡◌, ℕ, ◌+◌, Some, sym, ap, subst, ◌∙◌}
 use Rattle.apex_types.specs.declared.codes.Errno.{Errno}
-use Rattle.apex_model.specs.Durable.{StoredFile}
 use Rattle.apex_model.specs.Handles.{free_from}
-use Rattle.apex_model.specs.Trees.{Name}
-use Rattle.file_tree.specs.Entries.{TreeValue, path_in, with_file}
 use Rattle.tree_state.specs.Stored.{durable_tree}
-use Rattle.tree_state.specs.declared.state.TreeState.{TreeState}
-use Rattle.tree_store.specs.Answers.{Passes, made_file, name_calls}
-use Rattle.tree_store.specs.Stored.{AreSpelled, IsStored, names_of, row_of, start_of}
+use Rattle.tree_store.specs.Answers.{Passes, made_file}
+use Rattle.tree_store.specs.Stored.{IsStored, names_of, row_of, start_of}
 use Rattle.tree_store.proofs.Made.{file-full, file-refusal-none, made-file-holds, made-file-tree, some-unless}
 use Rattle.tree_store.proofs.Naming.{acts-step, calls-made, passes-none, passes-step, stored-named, stored-same, with_state}
-use Rattle.tree_store.proofs.Spelled.{IsSpelled, file-spelled, path-spelled, spelled-put}
 use Rattle.tree_store.proofs.store.TreeStore.make_file.Goals as goal
 
 pub returns-in-Ok-clause-answer : goal.returns-in-Ok-clause-answer
@@ -20,9 +14,10 @@ returns-in-Ok-clause-answer g c v holds =
     let t = c.make_file.new.state in
     let o = g.R.Rig.state c.args.rig.now in
     let e = g.R.Rig.state c.make_file.new.rig in
-    let made = c.in-Ok.ensures.made in
-    (file-refusal-none g.R.Rig.tells_view o s v holds c.args.parent.0 c.args.name c.in-Ok.file.0 made.0,
-     made-file-holds g.R.Rig.tells_view o s v holds c.args.parent.0 c.args.name c.in-Ok.file.0 made.0 e t made.1 c.stand.ensures c.make_file.ensures.present c.make_file.ensures.charges c.make_file.ensures.contents c.in-Ok.ensures.durable)
+    let made = c.in-Ok.ensures.made in (
+      file-refusal-none g.R.Rig.tells_view o s v holds c.args.parent.0 c.args.name c.in-Ok.file.0 made.0,
+      made-file-holds g.R.Rig.tells_view o s v holds c.args.parent.0 c.args.name c.in-Ok.file.0 made.0 e t made.1 c.stand.ensures.consistent c.make_file.ensures.present c.make_file.ensures.charges c.make_file.ensures.contents c.in-Ok.ensures.durable,
+    )
 
 pub returns-in-Ok-clause-moments : goal.returns-in-Ok-clause-moments
 returns-in-Ok-clause-moments g c v holds =
@@ -39,11 +34,7 @@ returns-in-Ok-clause-stored g c =
     let t = c.make_file.new.state in
     let o = g.R.Rig.state c.args.rig.now in
     let e = g.R.Rig.state c.make_file.new.rig in
-    let f = c.in-Ok.file.0 in
-    let path = path_in (names_of s) c.args.parent.0 c.args.name in
-    let spelled = path-spelled (names_of s) c.requires.stored.spelled c.args.parent.0 c.args.name c.bytes-spelled.ensures.name in
-    stored-named g.R.Rig.tells_view o e s t c.requires.stored c.make_file.ensures.step.later c.stand.ensures
-    (subst AreSpelled (sym c.in-Ok.ensures.made.1) (file-spelled (names_of s) (with_file (names_of s) f path) c.requires.stored.spelled f (Some path) (spelled-put path spelled) refl refl)) c.in-Ok.ensures.state
+    stored-named g.R.Rig.tells_view o e s t c.requires.stored c.make_file.ensures.step.later c.stand.ensures.consistent c.stand.ensures.spelled c.in-Ok.ensures.state
 
 pub returns-in-Ok-clause-acts : goal.returns-in-Ok-clause-acts
 returns-in-Ok-clause-acts g c =

@@ -1,14 +1,13 @@
-use Rattle.std.proofs.Common.{◌≡◌, ℕ, ◌+◌, ◌-◌, ◌≤◌, List, [], length, Option, Some, None, refl, sym, ap, subst, ◌∙◌, arith}
+use Rattle.std.proofs.Common.{[], ◌≡◌, ℕ, ◌+◌, Some, sym, ap, subst, ◌∙◌}
 use Rattle.std.specs.Prelude.{unwrap_or}
 use Rattle.apex_types.specs.declared.codes.Errno.{Errno}
 use Rattle.apex_model.specs.Trees.{entries_within}
-use Rattle.file_tree.specs.Entries.{way_of, without_directory}
+use Rattle.file_tree.specs.Entries.{way_of}
 use Rattle.tree_state.specs.Stored.{durable_tree}
 use Rattle.tree_store.specs.Answers.{Passes, removed_directory}
-use Rattle.tree_store.specs.Stored.{AreSpelled, IsStored, names_of, row_of, start_of}
+use Rattle.tree_store.specs.Stored.{IsStored, names_of, row_of, start_of}
 use Rattle.tree_store.proofs.Made.{none-unless, removal-none, removal-some, removed-directory-holds, removed-directory-tree}
 use Rattle.tree_store.proofs.Naming.{acts-step, calls-made, passes-none, passes-step, stored-named, stored-same, with_state}
-use Rattle.tree_store.proofs.Spelled.{directory-spelled, none-put}
 use Rattle.tree_store.proofs.store.TreeStore.remove_dir.Goals as goal
 
 pub returns-in-Ok-clause-answer : goal.returns-in-Ok-clause-answer
@@ -17,9 +16,10 @@ returns-in-Ok-clause-answer g c v holds =
     let t = c.remove_dir.new.state in
     let o = g.R.Rig.state c.args.rig.now in
     let e = g.R.Rig.state c.remove_dir.new.rig in
-    let removed = c.in-Ok.ensures.removed in
-    (removal-none g.R.Rig.tells_view o s v holds c.args.directory.0 removed.0,
-     removed-directory-holds g.R.Rig.tells_view o s v holds c.args.directory.0 e t removed.1 c.stand.ensures c.remove_dir.ensures.present c.remove_dir.ensures.charges c.remove_dir.ensures.contents c.in-Ok.ensures.durable)
+    let removed = c.in-Ok.ensures.removed in (
+      removal-none g.R.Rig.tells_view o s v holds c.args.directory.0 removed.0,
+      removed-directory-holds g.R.Rig.tells_view o s v holds c.args.directory.0 e t removed.1 c.stand.ensures.consistent c.remove_dir.ensures.present c.remove_dir.ensures.charges c.remove_dir.ensures.contents c.in-Ok.ensures.durable,
+    )
 
 pub returns-in-Ok-clause-moments : goal.returns-in-Ok-clause-moments
 returns-in-Ok-clause-moments g c v holds =
@@ -35,10 +35,7 @@ returns-in-Ok-clause-stored g c =
     let t = c.remove_dir.new.state in
     let o = g.R.Rig.state c.args.rig.now in
     let e = g.R.Rig.state c.remove_dir.new.rig in
-    let d = c.args.directory.0 in
-    let path = unwrap_or (way_of (names_of s) d) [] in
-    stored-named g.R.Rig.tells_view o e s t c.requires.stored c.remove_dir.ensures.step.later c.stand.ensures
-    (subst AreSpelled (sym c.in-Ok.ensures.removed.1) (directory-spelled (names_of s) (without_directory (names_of s) (d - 1) path) c.requires.stored.spelled (d - 1) None none-put refl refl)) c.in-Ok.ensures.state
+    stored-named g.R.Rig.tells_view o e s t c.requires.stored c.remove_dir.ensures.step.later c.stand.ensures.consistent c.stand.ensures.spelled c.in-Ok.ensures.state
 
 pub returns-in-Ok-clause-acts : goal.returns-in-Ok-clause-acts
 returns-in-Ok-clause-acts g c =

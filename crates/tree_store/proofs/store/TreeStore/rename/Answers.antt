@@ -1,14 +1,13 @@
-use Rattle.std.proofs.Common.{◌≡◌, ℕ, ◌+◌, ◌≤◌, List, Option, Some, None, refl, sym, ap, subst, ◌∙◌, arith}
+use Rattle.std.proofs.Common.{◌≡◌, ℕ, ◌+◌, List, Option, subst}
 use Rattle.std.specs.Prelude.{IfSome}
 use Rattle.apex_model.specs.Trees.{Name}
 use Rattle.file_tree.specs.Entries.{path_in, slot, with_file_at}
 use Rattle.tree_state.specs.Stored.{durable_tree}
 use Rattle.tree_store.specs.Answers.{renamed_file}
-use Rattle.tree_store.specs.Stored.{AreSpelled, names_of, row_of, start_of}
+use Rattle.tree_store.specs.Stored.{names_of, row_of, start_of}
 use Rattle.file_tree.proofs.Changes.{some_is}
 use Rattle.tree_store.proofs.Naming.{acts-step, calls-made, passes-step, stored-named}
 use Rattle.tree_store.proofs.Renamed.{renamed-holds, renamed-tree}
-use Rattle.tree_store.proofs.Spelled.{file-spelled, path-spelled, spelled-put}
 use Rattle.tree_store.proofs.store.TreeStore.rename.Goals as goal
 
 pub returns-in_err-rename-clause-moments : goal.returns-in_err-rename-clause-moments
@@ -49,20 +48,15 @@ returns-clause-done g c v holds =
     let done = c.in_ok-rename.ensures in
     let renamed = subst (λ (o : Option (List Name)). IfSome o (λ p. t.kept.tree ≡ with_file_at (names_of s) f p path)) from.1 done.renamed in
     renamed-holds g.R.Rig.tells_view (g.R.Rig.state c.args.rig.now) s v holds c.args.file c.args.parent.0 c.args.name from.0 from.1 (c.rename.ensures.stands from.0 from.1) (g.R.Rig.state c.rename.new.rig) t
-    renamed c.stand.ensures c.rename.ensures.present c.rename.ensures.charges c.rename.ensures.contents (done.durable from.0 from.1)
+    renamed c.stand.ensures.consistent c.rename.ensures.present c.rename.ensures.charges c.rename.ensures.contents (done.durable from.0 from.1)
 
 pub returns-clause-stored : goal.returns-clause-stored
 returns-clause-stored g c =
     let s = c.args.self.now in
     let t = c.rename.new.state in
-    let f = c.args.file.0 in
-    let path = path_in (names_of s) c.args.parent.0 c.args.name in
-    let from = some_is (slot (names_of s).files f) c.requires.file in
+    let from = some_is (slot (names_of s).files c.args.file.0) c.requires.file in
     let done = c.in_ok-rename.ensures in
-    let spelled = path-spelled (names_of s) c.requires.stored.spelled c.args.parent.0 c.args.name c.bytes-spelled.ensures.name in
-    let renamed = subst (λ (o : Option (List Name)). IfSome o (λ p. t.kept.tree ≡ with_file_at (names_of s) f p path)) from.1 done.renamed in
-    stored-named g.R.Rig.tells_view (g.R.Rig.state c.args.rig.now) (g.R.Rig.state c.rename.new.rig) s t c.requires.stored (c.rename.ensures.step from.0 from.1).later c.stand.ensures
-    (subst AreSpelled (sym renamed) (file-spelled (names_of s) (with_file_at (names_of s) f from.0 path) c.requires.stored.spelled f (Some path) (spelled-put path spelled) refl refl)) done.state
+    stored-named g.R.Rig.tells_view (g.R.Rig.state c.args.rig.now) (g.R.Rig.state c.rename.new.rig) s t c.requires.stored (c.rename.ensures.step from.0 from.1).later c.stand.ensures.consistent c.stand.ensures.spelled done.state
 
 pub returns-clause-rises : goal.returns-clause-rises
 returns-clause-rises g c keeps =
