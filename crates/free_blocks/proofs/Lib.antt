@@ -2,5 +2,4 @@ pub mod Charges
 pub mod Marked
 pub mod Owned
 pub mod Places
-pub mod Small
 pub mod Taken

@@ -7,6 +7,3 @@ mod taking;
 
 pub use owning::own_block;
 pub use taking::take_free;
-
-#[cfg(test)]
-mod tests;

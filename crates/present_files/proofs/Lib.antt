@@ -6,5 +6,4 @@ pub mod Joined
 pub mod ReadRuns
 pub mod Rooms
 pub mod Sizes
-pub mod Small
 pub mod Unchanged

@@ -7,8 +7,6 @@ mod present;
 mod reading;
 mod resizing;
 mod stored;
-#[cfg(test)]
-mod tests;
 mod writing;
 
 pub use blocks::buffer;

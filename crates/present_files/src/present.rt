@@ -3,7 +3,7 @@ use block_pool::Pool;
 use tree_mount::BlockNumbers;
 
 /// The present size of a file in bytes, and how often it was changed.
-#[derive(Clone, Copy, Debug, PartialEq, Eq)]
+#[derive(Clone, Copy)]
 pub struct PresentSize {
     pub size: u32,
     pub changes: u32,

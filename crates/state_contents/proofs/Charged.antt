@@ -7,7 +7,7 @@ use Rattle.apex_types.specs.declared.rows.TreeRow.{TreeRow}
 use Rattle.apex_model.specs.Files.{blocks_of}
 use Rattle.block_quota.specs.Quota.{ChargesValue, charge_of, raised_to, total}
 use Rattle.file_tree.specs.Entries.{TreeValue, slot}
-use Rattle.present_files.specs.Present.{never_changed, size_in, changes_in}
+use Rattle.present_files.specs.Present.{never_changed, size_in}
 use Rattle.present_files.specs.declared.present.PresentSize.{PresentSize}
 use Rattle.tree_mount.specs.Numbers.{most_blocks}
 use Rattle.tree_state.specs.State.{AreCharged, AreUnusedEmpty}

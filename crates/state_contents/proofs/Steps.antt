@@ -1,13 +1,12 @@
 -- What stays durable and which contents change, from one call to the next.
-use Rattle.std.proofs.Common.{◌≡◌, ◌≢◌, ℕ, ◌+◌, ◌*◌, ◌≤◌, List, refl, sym, ap, subst, ◌∙◌, arith}
+use Rattle.std.proofs.Common.{◌≡◌, ℕ, ◌+◌, ◌*◌, List, refl, sym, ap, subst, ◌∙◌, arith}
 use Rattle.std.specs.Prelude.{slice_set}
 use Rattle.apex_types.specs.declared.numbers.FileNode.{FileNode}
 use Rattle.apex_types.specs.declared.rows.TreeRow.{TreeRow}
 use Rattle.apex_model.specs.Files.{Content, blocks_of}
 use Rattle.apex_model.specs.Image.{tree_of_region}
 use Rattle.block_quota.specs.Quota.{ChargesValue, raised_to}
-use Rattle.present_files.specs.Present.{changes_in, changes_of, content_of, size_in, size_of}
-use Rattle.present_files.specs.declared.present.PresentSize.{PresentSize}
+use Rattle.present_files.specs.Present.{changes_in, changes_of}
 use Rattle.rig_core.specs.Bytes.{SameElsewhere}
 use Rattle.rig_core.specs.Leaves.{FromNow, Leaves}
 use Rattle.rig_core.specs.Outside.{Outside, OnlyReads, Sound}
@@ -16,7 +15,7 @@ use Rattle.tree_changes.specs.InStep.{data_at, slots_long}
 use Rattle.tree_mount.specs.Region.{region_at, tree_over}
 use Rattle.tree_mount.specs.declared.region.TreeRegion.{TreeRegion}
 use Rattle.tree_state.specs.State.{IsState}
-use Rattle.tree_state.specs.Stored.{KeepsFiles, SameContents, durable_tree}
+use Rattle.tree_state.specs.Stored.{KeepsFiles, SameContents}
 use Rattle.tree_state.specs.declared.state.TreeState.{TreeState}
 use Rattle.write_back.specs.Durable.{KeepsDurable}
 use Rattle.state_contents.specs.Changes.{IsChanged, IsUnchanged, StaysDurable}

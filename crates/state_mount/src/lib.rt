@@ -6,6 +6,3 @@ mod copying;
 mod mounting;
 
 pub use mounting::mount_state;
-
-#[cfg(test)]
-mod tests;

@@ -120,7 +120,11 @@ const EMPTY_A: Files = &[(A, Some(&[])), (B, None), (BELOW, None)];
 const OLD_A: Files = &[(A, Some(&[(7, 4200)])), (B, None), (BELOW, None)];
 
 // The nine blocks of the second write become durable together.
-const NEW_A: Files = &[(A, Some(&[(7, 50), (8, 4096), (7, 54)])), (B, None), (BELOW, None)];
+const NEW_A: Files = &[
+    (A, Some(&[(7, 50), (8, 4096), (7, 54)])),
+    (B, None),
+    (BELOW, None),
+];
 
 const BOTH: Files = &[
     (A, Some(&[(7, 50), (8, 4096), (7, 54)])),
@@ -134,7 +138,11 @@ const CUT_SHORT: Files = &[
     (BELOW, Some(&[])),
 ];
 
-const MOVED: Files = &[(A, Some(&[(7, 50), (8, 10)])), (B, Some(&[])), (BELOW, None)];
+const MOVED: Files = &[
+    (A, Some(&[(7, 50), (8, 10)])),
+    (B, Some(&[])),
+    (BELOW, None),
+];
 
 const ONLY_B: Files = &[(A, None), (B, Some(&[])), (BELOW, None)];
 
@@ -167,11 +175,21 @@ fn full_journal_survives(alloc: Global) -> Result<bool, Fail> {
         return Err(Fail::from("mount"));
     };
     for _ in 0..16 {
-        let Ok(()) = fly(&mut store, &mut rig, &[Change::MakeFile(A), Change::RemoveFile(A)]) else {
+        let Ok(()) = fly(
+            &mut store,
+            &mut rig,
+            &[Change::MakeFile(A), Change::RemoveFile(A)],
+        ) else {
             return Err(Fail::from("names"));
         };
     }
-    survives(alloc, &mut store, &mut rig, Change::MakeFile(A), [NOTHING, EMPTY_A])
+    survives(
+        alloc,
+        &mut store,
+        &mut rig,
+        Change::MakeFile(A),
+        [NOTHING, EMPTY_A],
+    )
 }
 
 #[test]

@@ -33,7 +33,14 @@ fn stored_rig(alloc: Global, failing: FailList) -> Result<MemRig, Fail>
     let mut rig = empty_rig(alloc, SMALL, FailList::new(alloc))?;
     let changes = [
         Change::MakeFile(A),
-        Change::Write(A, Run { from: 0, count: 600, byte: 7 }),
+        Change::Write(
+            A,
+            Run {
+                from: 0,
+                count: 600,
+                byte: 7,
+            },
+        ),
         Change::Sync(A),
     ];
     let Ok(()) = flown(alloc, &mut rig, &changes) else {
@@ -45,7 +52,14 @@ fn stored_rig(alloc: Global, failing: FailList) -> Result<MemRig, Fail>
 
 // What is done to that disk.
 const FLIGHT: [Change; 5] = [
-    Change::Write(A, Run { from: 100, count: 50, byte: 8 }),
+    Change::Write(
+        A,
+        Run {
+            from: 100,
+            count: 50,
+            byte: 8,
+        },
+    ),
     Change::Sync(A),
     Change::MakeFile(B),
     Change::Resize(A, 90),
@@ -137,7 +151,11 @@ fn failed_read_changes_nothing(alloc: Global) -> Result<bool, Fail> {
     let Ok(mut store) = mounted(alloc, &mut rig, &small_row()) else {
         return Err(Fail::from("mount"));
     };
-    let run = Run { from: 100, count: 50, byte: 8 };
+    let run = Run {
+        from: 100,
+        count: 50,
+        byte: 8,
+    };
     if write(&mut store, &mut rig, A, run) != Err(Stop::ReadFault) {
         return Ok(false);
     }
@@ -147,7 +165,13 @@ fn failed_read_changes_nothing(alloc: Global) -> Result<bool, Fail> {
     if write(&mut store, &mut rig, A, run) != Ok(()) {
         return Ok(false);
     }
-    has_file(alloc, &mut store, &mut rig, A, Some(&[(7, 100), (8, 50), (7, 450)]))
+    has_file(
+        alloc,
+        &mut store,
+        &mut rig,
+        A,
+        Some(&[(7, 100), (8, 50), (7, 450)]),
+    )
 }
 
 #[test]
@@ -163,16 +187,32 @@ fn failed_write_changes_nothing(alloc: Global) -> Result<bool, Fail> {
     let Ok(mut store) = mounted(alloc, &mut rig, &small_row()) else {
         return Err(Fail::from("mount"));
     };
-    let first = Run { from: 0, count: 4096, byte: 1 };
-    let second = Run { from: 4096, count: 4096, byte: 2 };
+    let first = Run {
+        from: 0,
+        count: 4096,
+        byte: 1,
+    };
+    let second = Run {
+        from: 4096,
+        count: 4096,
+        byte: 2,
+    };
     if write(&mut store, &mut rig, A, first) != Ok(())
         || write(&mut store, &mut rig, A, second) != Err(Stop::Device)
         || !has_file(alloc, &mut store, &mut rig, A, Some(&[(1, 4096)]))?
     {
         return Ok(false);
     }
-    Ok(write(&mut store, &mut rig, A, second) == Ok(())
-        && has_file(alloc, &mut store, &mut rig, A, Some(&[(1, 4096), (2, 4096)]))?)
+    Ok(
+        write(&mut store, &mut rig, A, second) == Ok(())
+            && has_file(
+                alloc,
+                &mut store,
+                &mut rig,
+                A,
+                Some(&[(1, 4096), (2, 4096)]),
+            )?,
+    )
 }
 
 #[test]

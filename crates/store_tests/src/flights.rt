@@ -142,12 +142,7 @@ fn remove_directory<R: Rig>(store: &mut TreeStore, rig: &mut R, bytes: &[u8]) ->
     }
 }
 
-fn rename<R: Rig>(
-    store: &mut TreeStore,
-    rig: &mut R,
-    from: &[u8],
-    to: &[u8],
-) -> Result<(), Stop>
+fn rename<R: Rig>(store: &mut TreeStore, rig: &mut R, from: &[u8], to: &[u8]) -> Result<(), Stop>
     requires stored { IsStored R.tells_view (R.state rig.old) store.old }
     ensures stored { OnOk result (IsStored R.tells_view (R.state rig.new) store.new) }
 {

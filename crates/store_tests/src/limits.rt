@@ -12,11 +12,39 @@ const A: &[u8] = b"/NV1/FMS/A";
 // The whole quota of 16 blocks, in two writes, and once more.
 const FILL: [Change; 6] = [
     Change::MakeFile(A),
-    Change::Write(A, Run { from: 0, count: 4096, byte: 1 }),
-    Change::Write(A, Run { from: 4096, count: 4096, byte: 1 }),
+    Change::Write(
+        A,
+        Run {
+            from: 0,
+            count: 4096,
+            byte: 1,
+        },
+    ),
+    Change::Write(
+        A,
+        Run {
+            from: 4096,
+            count: 4096,
+            byte: 1,
+        },
+    ),
     Change::Sync(A),
-    Change::Write(A, Run { from: 0, count: 4096, byte: 2 }),
-    Change::Write(A, Run { from: 4096, count: 4096, byte: 3 }),
+    Change::Write(
+        A,
+        Run {
+            from: 0,
+            count: 4096,
+            byte: 2,
+        },
+    ),
+    Change::Write(
+        A,
+        Run {
+            from: 4096,
+            count: 4096,
+            byte: 3,
+        },
+    ),
 ];
 
 /// Whether a tree whose file has all blocks of the quota takes each of them anew, round after round, and no byte more.
@@ -29,16 +57,36 @@ fn full_tree_moves_its_blocks(alloc: Global) -> Result<bool, Fail> {
         return Ok(false);
     }
     for byte in 4..8 {
-        let front = Change::Write(A, Run { from: 0, count: 4096, byte });
-        let back = Change::Write(A, Run { from: 4096, count: 4096, byte });
+        let front = Change::Write(
+            A,
+            Run {
+                from: 0,
+                count: 4096,
+                byte,
+            },
+        );
+        let back = Change::Write(
+            A,
+            Run {
+                from: 4096,
+                count: 4096,
+                byte,
+            },
+        );
         if fly(&mut store, &mut rig, &[front, back, Change::Sync(A)]).is_err() {
             return Ok(false);
         }
     }
-    let beyond = Run { from: 8192, count: 1, byte: 9 };
-    Ok(store.charge() == 16
-        && write(&mut store, &mut rig, A, beyond) == Err(Stop::Refused(Errno::Enospc))
-        && has_file(alloc, &mut store, &mut rig, A, Some(&[(7, 8192)]))?)
+    let beyond = Run {
+        from: 8192,
+        count: 1,
+        byte: 9,
+    };
+    Ok(
+        store.charge() == 16
+            && write(&mut store, &mut rig, A, beyond) == Err(Stop::Refused(Errno::Enospc))
+            && has_file(alloc, &mut store, &mut rig, A, Some(&[(7, 8192)]))?,
+    )
 }
 
 #[test]
@@ -57,7 +105,11 @@ fn written_past_the_buffers(alloc: Global) -> Result<MemRig, Fail> {
         return Err(Fail::from("make"));
     };
     for k in 0..16u8 {
-        let run = Run { from: 4096 * k as u32, count: 4096, byte: k + 1 };
+        let run = Run {
+            from: 4096 * k as u32,
+            count: 4096,
+            byte: k + 1,
+        };
         if write(&mut store, &mut rig, A, run).is_err() {
             return Err(Fail::from("write"));
         }
@@ -67,12 +119,17 @@ fn written_past_the_buffers(alloc: Global) -> Result<MemRig, Fail> {
 
 /// How many blocks of an image have this byte alone.
 fn blocks_of(image: &[u8], byte: u8) -> usize {
-    image.chunks(512).filter(|block| block.iter().all(|b| *b == byte)).count()
+    image
+        .chunks(512)
+        .filter(|block| block.iter().all(|b| *b == byte))
+        .count()
 }
 
 /// Of the sixteen writes, how many are on the device with all their blocks.
 fn writes_on_device(rig: &MemRig) -> usize {
-    (1..17u8).filter(|byte| blocks_of(rig.view(), *byte) == 8).count()
+    (1..17u8)
+        .filter(|byte| blocks_of(rig.view(), *byte) == 8)
+        .count()
 }
 
 #[test]

@@ -1,5 +1,5 @@
 -- A region that is in step with what is kept of it stays so while only reads are made.
-use Rattle.std.proofs.Common.{◌≡◌, ℕ, List, sym, ap, subst, ◌∙◌}
+use Rattle.std.proofs.Common.{◌≡◌, ℕ, List, sym, subst}
 use Rattle.apex_types.specs.declared.rows.TreeRow.{TreeRow}
 use Rattle.apex_model.specs.Image.{tree_of_region}
 use Rattle.rig_core.specs.Bytes.{SameWithin}

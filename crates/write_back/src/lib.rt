@@ -4,6 +4,3 @@
 mod placing;
 
 pub use placing::write_present;
-
-#[cfg(test)]
-mod tests;

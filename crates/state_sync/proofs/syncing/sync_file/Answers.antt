@@ -1,5 +1,4 @@
 use Rattle.std.proofs.Common.{◌∙◌}
-use Rattle.std.specs.Prelude.{OnOk}
 use Rattle.tree_state.specs.Stored.{SameContents}
 use Rattle.write_back.proofs.Placed.{on-ok}
 use Rattle.state_sync.proofs.Synchronised.{both-either, both-outside, both-view, data-outside, kept-either, same-either, same-path, view-tree}
