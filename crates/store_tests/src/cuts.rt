@@ -7,7 +7,7 @@ ghost use Rattle.tree_store.specs.Stored.{IsStored};
 use crate::flights::{Change, Run, fly, mounted};
 use crate::found::{Files, has_files};
 use crate::regions::{SMALL, empty_rig, small_row};
-use apex_types::FailList;
+use apex_types::{CallKind, FailList};
 use rig_core::{MemRig, PendingBytes};
 use std::alloc::Global;
 use std::test::Fail;
@@ -53,6 +53,11 @@ fn leaves_either(alloc: Global, rig: &MemRig, calls: u32, files: [Files; 2]) -> 
     Ok(true)
 }
 
+/// Whether a recorded call is a read: what a cut after it leaves was left before it.
+fn is_read(rig: &MemRig, k: u32) -> bool {
+    k < rig.records() && rig.call_at(k).kind == CallKind::Read
+}
+
 /// Whether each cut at a call from the first of these on, and before the second, leaves either files; at the second it
 /// leaves the second ones.
 fn survives_calls(
@@ -65,7 +70,7 @@ fn survives_calls(
     requires fits { 83968 ≤ (mem_state rig.now).size }
 {
     for calls in first..end {
-        if !leaves_either(alloc, rig, calls, files)? {
+        if !is_read(rig, calls) && !leaves_either(alloc, rig, calls, files)? {
             return Ok(false);
         }
     }
