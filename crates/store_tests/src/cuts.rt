@@ -6,7 +6,7 @@ ghost use Rattle.tree_store.specs.Stored.{IsStored};
 
 use crate::flights::{Change, Run, fly, mounted};
 use crate::found::{Files, has_files};
-use crate::regions::{SMALL, empty_rig, small_row};
+use crate::regions::{SMALL, empty_rig, rig_of_version, small_row};
 use apex_types::{CallKind, FailList};
 use rig_core::{MemRig, PendingBytes};
 use std::alloc::Global;
@@ -172,19 +172,15 @@ fn each_change_of_a_flight_survives_a_cut_at_each_call(rt: HostRuntime) -> Resul
     Ok(())
 }
 
-/// Whether a tree whose journal has no room left survives a change of names by a whole slot: A is made and removed until
-/// all 32 records are used.
-fn full_journal_survives(alloc: Global) -> Result<bool, Fail> {
-    let mut rig = empty_rig(alloc, SMALL, FailList::new(alloc))?;
+/// Whether a change of names survives where it is made by a whole slot: A is made and removed so many times before, and
+/// made once more.
+fn slot_survives(alloc: Global, version: u8, times: u32) -> Result<bool, Fail> {
+    let mut rig = rig_of_version(alloc, SMALL, version, FailList::new(alloc))?;
     let Ok(mut store) = mounted(alloc, &mut rig, &small_row()) else {
         return Err(Fail::from("mount"));
     };
-    for _ in 0..16 {
-        let Ok(()) = fly(
-            &mut store,
-            &mut rig,
-            &[Change::MakeFile(A), Change::RemoveFile(A)],
-        ) else {
+    for _ in 0..times {
+        let Ok(()) = fly(&mut store, &mut rig, &[Change::MakeFile(A), Change::RemoveFile(A)]) else {
             return Err(Fail::from("names"));
         };
     }
@@ -198,7 +194,10 @@ fn full_journal_survives(alloc: Global) -> Result<bool, Fail> {
 }
 
 #[test]
-fn a_change_of_names_survives_where_the_journal_is_full(rt: HostRuntime) -> Result<(), Fail> {
-    assert!(rt; full_journal_survives(rt.alloc())?);
+fn a_change_of_names_survives_where_it_is_a_whole_slot(rt: HostRuntime) -> Result<(), Fail> {
+    // all 32 records of the journal are used
+    assert!(rt; slot_survives(rt.alloc(), 2, 16)?);
+    // the first version has no journal
+    assert!(rt; slot_survives(rt.alloc(), 1, 0)?);
     Ok(())
 }

@@ -47,14 +47,26 @@ pub(crate) const SMALL: usize = 83968;
 
 pub(crate) const LARGE: usize = 199680;
 
-/// A disk of so many bytes that fails at the listed calls, with a region that is formatted and in which nothing is stored:
-/// the first slot's gate is open, and its body has sequence number 0 and version 2.
+/// A disk of so many bytes that fails at the listed calls, with a region that is formatted and in which nothing is stored.
 pub(crate) fn empty_rig(alloc: Global, bytes: usize, failing: FailList) -> Result<MemRig, Fail>
+    ensures size { IfOk result (λ rig. (mem_state rig).size ≡ bytes) }
+    ensures settled { IfOk result (λ rig. IsAllSettled (mem_state rig)) }
+{
+    rig_of_version(alloc, bytes, 2, failing)
+}
+
+/// The same in a version of bodies: the first slot's gate is open, and its body has sequence number 0.
+pub(crate) fn rig_of_version(
+    alloc: Global,
+    bytes: usize,
+    version: u8,
+    failing: FailList,
+) -> Result<MemRig, Fail>
     ensures size { IfOk result (λ rig. (mem_state rig).size ≡ bytes) }
     ensures settled { IfOk result (λ rig. IsAllSettled (mem_state rig)) }
 {
     let mut image = vec![in alloc; 0u8; bytes]?;
     put(&mut image, 0, &[0xA5]);
-    put(&mut image, 512, &[0, 2]);
+    put(&mut image, 512, &[0, version]);
     Ok(rig_of(alloc, &image, failing)?)
 }
