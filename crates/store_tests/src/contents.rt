@@ -3,8 +3,10 @@ use crate::flights::{Change, Run, Stop, fly, mounted};
 use crate::found::{Content, has_file};
 use crate::regions::{SMALL, empty_rig, small_row};
 use apex_types::{Errno, FailList};
+use rig_core::PendingBytes;
 use std::alloc::Global;
 use std::test::Fail;
+use test_fixtures::after_cut;
 
 const A: &[u8] = b"/NV1/FMS/A";
 
@@ -26,18 +28,23 @@ fn has_content(alloc: Global, changes: &[Change], content: Content) -> Result<bo
     let Ok(mut store) = mounted(alloc, &mut rig, &small_row()) else {
         return Err(Fail::from("mount"));
     };
-    if fly(&mut store, &mut rig, &[Change::MakeFile(A)]).is_err()
-        || fly(&mut store, &mut rig, changes).is_err()
-        || !has_file(alloc, &mut store, &mut rig, A, Some(content))?
-        || fly(&mut store, &mut rig, &[Change::Sync(A)]).is_err()
-        || !has_file(alloc, &mut store, &mut rig, A, Some(content))?
-    {
-        return Ok(false);
-    }
-    let Ok(mut again) = mounted(alloc, &mut rig, &small_row()) else {
+    let Ok(()) = fly(&mut store, &mut rig, &[Change::MakeFile(A)]) else {
         return Ok(false);
     };
-    has_file(alloc, &mut again, &mut rig, A, Some(content))
+    let Ok(()) = fly(&mut store, &mut rig, changes) else {
+        return Ok(false);
+    };
+    if !has_file(alloc, &store, &mut rig, A, Some(content))? {
+        return Ok(false);
+    }
+    let Ok(()) = fly(&mut store, &mut rig, &[Change::Sync(A)]) else {
+        return Ok(false);
+    };
+    let mut cut = after_cut(alloc, &rig, rig.records(), PendingBytes::None)?;
+    let Ok(again) = mounted(alloc, &mut cut, &small_row()) else {
+        return Ok(false);
+    };
+    has_file(alloc, &again, &mut cut, A, Some(content))
 }
 
 #[test]
@@ -53,7 +60,13 @@ fn contents_change_over_blocks(rt: HostRuntime) -> Result<(), Fail> {
             &[(7, 510), (0, 690)],
         ),
         (
-            &[first, Change::Sync(A), Change::Resize(A, 5), Change::Sync(A), Change::Resize(A, 600)],
+            &[
+                first,
+                Change::Sync(A),
+                Change::Resize(A, 5),
+                Change::Sync(A),
+                Change::Resize(A, 600),
+            ],
             &[(7, 5), (0, 595)],
         ),
         (&[first, Change::Resize(A, 0)], &[]),

@@ -33,10 +33,10 @@ fn is_left(
     requires fits { 83968 ≤ (mem_state rig.now).size }
 {
     let mut cut = after_cut(alloc, rig, calls, left)?;
-    let Ok(mut store) = mounted(alloc, &mut cut, &small_row()) else {
+    let Ok(store) = mounted(alloc, &mut cut, &small_row()) else {
         return Ok(false);
     };
-    has_files(alloc, &mut store, &mut cut, files)
+    has_files(alloc, &store, &mut cut, files)
 }
 
 /// Whether each cut after so many calls leaves the first files or the second ones.
@@ -180,7 +180,11 @@ fn slot_survives(alloc: Global, version: u8, times: u32) -> Result<bool, Fail> {
         return Err(Fail::from("mount"));
     };
     for _ in 0..times {
-        let Ok(()) = fly(&mut store, &mut rig, &[Change::MakeFile(A), Change::RemoveFile(A)]) else {
+        let Ok(()) = fly(
+            &mut store,
+            &mut rig,
+            &[Change::MakeFile(A), Change::RemoveFile(A)],
+        ) else {
             return Err(Fail::from("names"));
         };
     }

@@ -79,11 +79,11 @@ fn is_stage(alloc: Global, rig: &mut MemRig) -> Result<bool, Fail>
     requires fits { 83968 ≤ (mem_state rig.old).size }
     requires settled { IsAllSettled (mem_state rig.old) }
 {
-    let Ok(mut store) = mounted(alloc, rig, &small_row()) else {
+    let Ok(store) = mounted(alloc, rig, &small_row()) else {
         return Ok(false);
     };
     for files in STAGES {
-        if has_files(alloc, &mut store, rig, files)? {
+        if has_files(alloc, &store, rig, files)? {
             return Ok(true);
         }
     }
@@ -159,7 +159,7 @@ fn failed_read_changes_nothing(alloc: Global) -> Result<bool, Fail> {
     if write(&mut store, &mut rig, A, run) != Err(Stop::ReadFault) {
         return Ok(false);
     }
-    if !has_file(alloc, &mut store, &mut rig, A, Some(&[(7, 600)]))? {
+    if !has_file(alloc, &store, &mut rig, A, Some(&[(7, 600)]))? {
         return Ok(false);
     }
     if write(&mut store, &mut rig, A, run) != Ok(()) {
@@ -167,7 +167,7 @@ fn failed_read_changes_nothing(alloc: Global) -> Result<bool, Fail> {
     }
     has_file(
         alloc,
-        &mut store,
+        &store,
         &mut rig,
         A,
         Some(&[(7, 100), (8, 50), (7, 450)]),
@@ -199,19 +199,13 @@ fn failed_write_changes_nothing(alloc: Global) -> Result<bool, Fail> {
     };
     if write(&mut store, &mut rig, A, first) != Ok(())
         || write(&mut store, &mut rig, A, second) != Err(Stop::Device)
-        || !has_file(alloc, &mut store, &mut rig, A, Some(&[(1, 4096)]))?
+        || !has_file(alloc, &store, &mut rig, A, Some(&[(1, 4096)]))?
     {
         return Ok(false);
     }
     Ok(
         write(&mut store, &mut rig, A, second) == Ok(())
-            && has_file(
-                alloc,
-                &mut store,
-                &mut rig,
-                A,
-                Some(&[(1, 4096), (2, 4096)]),
-            )?,
+            && has_file(alloc, &store, &mut rig, A, Some(&[(1, 4096), (2, 4096)]))?,
     )
 }
 

@@ -7,6 +7,7 @@ ghost use Rattle.rig_core.specs.Leaves.{IsAllSettled};
 ghost use Rattle.tree_store.specs.Stored.{names_of, IsStored};
 
 use apex_types::{DirNode, Errno, FileNode, Name, Path, Spot, TreeRow};
+use file_tree::Tree;
 use rig_core::{DeviceFault, Rig};
 use std::alloc::Global;
 use tree_store::{StoreRefusal, TreeStore};
@@ -58,24 +59,31 @@ impl From<DeviceFault> for Stop {
     }
 }
 
-/// The file at the end of a path.
-pub(crate) fn file_at(store: &TreeStore, bytes: &[u8]) -> Result<FileNode, Stop>
-    ensures in_use { IfOk result (λ file. IsSome (slot (names_of store.now).files file.0)) }
+/// The file of a tree at the end of a path.
+fn file_in(tree: &Tree, bytes: &[u8]) -> Result<FileNode, Stop>
+    ensures { IfOk result (λ file. IsSome (slot tree.now.files file.0)) }
 {
     let Ok(path) = Path::read(bytes) else {
         return Err(Stop::Misplaced);
     };
-    match store.tree().walk(&path) {
+    match tree.walk(&path) {
         Ok(Spot::File { node, .. }) => Ok(node),
         _ => Err(Stop::Misplaced),
     }
 }
 
-/// The directory and the name of a path where nothing stands.
-fn free_at(store: &TreeStore, bytes: &[u8]) -> Result<(DirNode, Name), Stop>
-    ensures in_use { IfOk result (λ spot. IsSome (way_of (names_of store.now) spot.0.0)) }
-    ensures few { IfOk result (λ spot. length (path_in (names_of store.now) spot.0.0 spot.1) ≤ 6) }
-    ensures free { IfOk result (λ spot. standing_at (names_of store.now).nodes (path_in (names_of store.now) spot.0.0 spot.1) ≡ None) }
+/// The file of a stored tree at the end of a path.
+pub(crate) fn file_at(store: &TreeStore, bytes: &[u8]) -> Result<FileNode, Stop>
+    ensures { IfOk result (λ file. IsSome (slot (names_of store.now).files file.0)) }
+{
+    file_in(store.tree(), bytes)
+}
+
+/// The directory of a tree and the name at the end of a path where nothing stands.
+fn free_at(tree: &Tree, bytes: &[u8]) -> Result<(DirNode, Name), Stop>
+    ensures in_use { IfOk result (λ spot. IsSome (way_of tree.now spot.0.0)) }
+    ensures few { IfOk result (λ spot. length (path_in tree.now spot.0.0 spot.1) ≤ 6) }
+    ensures free { IfOk result (λ spot. standing_at tree.now.nodes (path_in tree.now spot.0.0 spot.1) ≡ None) }
 {
     let Ok(path) = Path::read(bytes) else {
         return Err(Stop::Misplaced);
@@ -84,17 +92,20 @@ fn free_at(store: &TreeStore, bytes: &[u8]) -> Result<(DirNode, Name), Stop>
     if count == 0 {
         return Err(Stop::Misplaced);
     }
-    match store.tree().walk(&path) {
-        Ok(Spot::Free { parent }) => Ok((parent, path.names.at(count - 1).copy())),
-        _ => Err(Stop::Misplaced),
-    }
+    let Ok(Spot::Free { parent }) = tree.walk(&path) else {
+        return Err(Stop::Misplaced);
+    };
+    Ok((parent, path.names.at(count - 1).copy()))
 }
 
 fn make_file<R: Rig>(store: &mut TreeStore, rig: &mut R, path: &[u8]) -> Result<(), Stop>
     requires stored { IsStored R.tells_view (R.state rig.old) store.old }
     ensures stored { OnOk result (IsStored R.tells_view (R.state rig.new) store.new) }
+    ensures size { (R.state rig.new).size ≡ (R.state rig.old).size }
 {
-    let (parent, name) = free_at(store, path)?;
+    let Ok((parent, name)) = free_at(store.tree(), path) else {
+        return Err(Stop::Misplaced);
+    };
     match store.make_file(rig, parent, name) {
         Ok(_) => Ok(()),
         Err(refusal) => Err(Stop::from(refusal)),
@@ -104,8 +115,11 @@ fn make_file<R: Rig>(store: &mut TreeStore, rig: &mut R, path: &[u8]) -> Result<
 fn make_directory<R: Rig>(store: &mut TreeStore, rig: &mut R, path: &[u8]) -> Result<(), Stop>
     requires stored { IsStored R.tells_view (R.state rig.old) store.old }
     ensures stored { OnOk result (IsStored R.tells_view (R.state rig.new) store.new) }
+    ensures size { (R.state rig.new).size ≡ (R.state rig.old).size }
 {
-    let (parent, name) = free_at(store, path)?;
+    let Ok((parent, name)) = free_at(store.tree(), path) else {
+        return Err(Stop::Misplaced);
+    };
     match store.make_dir(rig, parent, name) {
         Ok(_) => Ok(()),
         Err(refusal) => Err(Stop::from(refusal)),
@@ -115,8 +129,11 @@ fn make_directory<R: Rig>(store: &mut TreeStore, rig: &mut R, path: &[u8]) -> Re
 fn remove_file<R: Rig>(store: &mut TreeStore, rig: &mut R, path: &[u8]) -> Result<(), Stop>
     requires stored { IsStored R.tells_view (R.state rig.old) store.old }
     ensures stored { OnOk result (IsStored R.tells_view (R.state rig.new) store.new) }
+    ensures size { (R.state rig.new).size ≡ (R.state rig.old).size }
 {
-    let file = file_at(store, path)?;
+    let Ok(file) = file_at(store, path) else {
+        return Err(Stop::Misplaced);
+    };
     match store.remove_file(rig, file) {
         Ok(()) => Ok(()),
         Err(fault) => Err(Stop::from(fault)),
@@ -126,6 +143,7 @@ fn remove_file<R: Rig>(store: &mut TreeStore, rig: &mut R, path: &[u8]) -> Resul
 fn remove_directory<R: Rig>(store: &mut TreeStore, rig: &mut R, bytes: &[u8]) -> Result<(), Stop>
     requires stored { IsStored R.tells_view (R.state rig.old) store.old }
     ensures stored { OnOk result (IsStored R.tells_view (R.state rig.new) store.new) }
+    ensures size { (R.state rig.new).size ≡ (R.state rig.old).size }
 {
     let Ok(path) = Path::read(bytes) else {
         return Err(Stop::Misplaced);
@@ -145,9 +163,14 @@ fn remove_directory<R: Rig>(store: &mut TreeStore, rig: &mut R, bytes: &[u8]) ->
 fn rename<R: Rig>(store: &mut TreeStore, rig: &mut R, from: &[u8], to: &[u8]) -> Result<(), Stop>
     requires stored { IsStored R.tells_view (R.state rig.old) store.old }
     ensures stored { OnOk result (IsStored R.tells_view (R.state rig.new) store.new) }
+    ensures size { (R.state rig.new).size ≡ (R.state rig.old).size }
 {
-    let file = file_at(store, from)?;
-    let (parent, name) = free_at(store, to)?;
+    let Ok(file) = file_at(store, from) else {
+        return Err(Stop::Misplaced);
+    };
+    let Ok((parent, name)) = free_at(store.tree(), to) else {
+        return Err(Stop::Misplaced);
+    };
     match store.rename(rig, file, parent, name) {
         Ok(()) => Ok(()),
         Err(fault) => Err(Stop::from(fault)),
@@ -163,8 +186,11 @@ pub(crate) fn write<R: Rig>(
 ) -> Result<(), Stop>
     requires stored { IsStored R.tells_view (R.state rig.old) store.old }
     ensures stored { IsStored R.tells_view (R.state rig.new) store.new }
+    ensures size { (R.state rig.new).size ≡ (R.state rig.old).size }
 {
-    let file = file_at(store, path)?;
+    let Ok(file) = file_at(store, path) else {
+        return Err(Stop::Misplaced);
+    };
     if run.count == 0 || run.count > 4096 || run.from > store.size(file) {
         return Err(Stop::Misplaced);
     }
@@ -178,8 +204,11 @@ pub(crate) fn write<R: Rig>(
 fn resize<R: Rig>(store: &mut TreeStore, rig: &mut R, path: &[u8], size: u32) -> Result<(), Stop>
     requires stored { IsStored R.tells_view (R.state rig.old) store.old }
     ensures stored { OnOk result (IsStored R.tells_view (R.state rig.new) store.new) }
+    ensures size { (R.state rig.new).size ≡ (R.state rig.old).size }
 {
-    let file = file_at(store, path)?;
+    let Ok(file) = file_at(store, path) else {
+        return Err(Stop::Misplaced);
+    };
     match store.resize(rig, file, size) {
         Ok(()) => Ok(()),
         Err(refusal) => Err(Stop::from(refusal)),
@@ -189,8 +218,11 @@ fn resize<R: Rig>(store: &mut TreeStore, rig: &mut R, path: &[u8], size: u32) ->
 fn sync<R: Rig>(store: &mut TreeStore, rig: &mut R, path: &[u8]) -> Result<(), Stop>
     requires stored { IsStored R.tells_view (R.state rig.old) store.old }
     ensures stored { OnOk result (IsStored R.tells_view (R.state rig.new) store.new) }
+    ensures size { (R.state rig.new).size ≡ (R.state rig.old).size }
 {
-    let file = file_at(store, path)?;
+    let Ok(file) = file_at(store, path) else {
+        return Err(Stop::Misplaced);
+    };
     match store.sync(rig, file) {
         Ok(()) => Ok(()),
         Err(fault) => Err(Stop::from(fault)),
@@ -200,6 +232,7 @@ fn sync<R: Rig>(store: &mut TreeStore, rig: &mut R, path: &[u8]) -> Result<(), S
 fn carry_out<R: Rig>(store: &mut TreeStore, rig: &mut R, change: Change) -> Result<(), Stop>
     requires stored { IsStored R.tells_view (R.state rig.old) store.old }
     ensures stored { OnOk result (IsStored R.tells_view (R.state rig.new) store.new) }
+    ensures size { (R.state rig.new).size ≡ (R.state rig.old).size }
 {
     match change {
         Change::MakeFile(path) => make_file(store, rig, path),
@@ -221,6 +254,7 @@ pub(crate) fn fly<R: Rig>(
 ) -> Result<(), Stop>
     requires stored { IsStored R.tells_view (R.state rig.old) store.old }
     ensures stored { OnOk result (IsStored R.tells_view (R.state rig.new) store.new) }
+    ensures size { (R.state rig.new).size ≡ (R.state rig.old).size }
 {
     for change in changes {
         carry_out(store, rig, *change)?;
@@ -234,6 +268,7 @@ pub(crate) fn mounted<R: Rig>(alloc: Global, rig: &mut R, row: &TreeRow) -> Resu
     requires buffers { 9 ≤ row.now.dirty }
     requires settled { IsAllSettled (R.state rig.old) }
     ensures stored { IfOk result (IsStored R.tells_view (R.state rig.new)) }
+    ensures size { (R.state rig.new).size ≡ (R.state rig.old).size }
 {
     match TreeStore::mount(alloc, rig, row, 0) {
         Ok(store) => Ok(store),

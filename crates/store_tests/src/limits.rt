@@ -53,9 +53,9 @@ fn full_tree_moves_its_blocks(alloc: Global) -> Result<bool, Fail> {
     let Ok(mut store) = mounted(alloc, &mut rig, &small_row()) else {
         return Err(Fail::from("mount"));
     };
-    if fly(&mut store, &mut rig, &FILL).is_err() {
+    let Ok(()) = fly(&mut store, &mut rig, &FILL) else {
         return Ok(false);
-    }
+    };
     for byte in 4..8 {
         let front = Change::Write(
             A,
@@ -73,9 +73,9 @@ fn full_tree_moves_its_blocks(alloc: Global) -> Result<bool, Fail> {
                 byte,
             },
         );
-        if fly(&mut store, &mut rig, &[front, back, Change::Sync(A)]).is_err() {
+        let Ok(()) = fly(&mut store, &mut rig, &[front, back, Change::Sync(A)]) else {
             return Ok(false);
-        }
+        };
     }
     let beyond = Run {
         from: 8192,
@@ -85,7 +85,7 @@ fn full_tree_moves_its_blocks(alloc: Global) -> Result<bool, Fail> {
     Ok(
         store.charge() == 16
             && write(&mut store, &mut rig, A, beyond) == Err(Stop::Refused(Errno::Enospc))
-            && has_file(alloc, &mut store, &mut rig, A, Some(&[(7, 8192)]))?,
+            && has_file(alloc, &store, &mut rig, A, Some(&[(7, 8192)]))?,
     )
 }
 
