@@ -16,6 +16,5 @@ pub mod Mounting
 pub mod Moved
 pub mod Rounds
 pub mod Spelled
-pub mod Tested
 pub mod Together
 pub mod Zips

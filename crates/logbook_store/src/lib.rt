@@ -17,8 +17,3 @@ pub use laws::{
 };
 pub use logs::Logs;
 pub use moving::move_on_device;
-
-#[cfg(test)]
-mod move_tests;
-#[cfg(test)]
-mod tests;

@@ -6,7 +6,7 @@ use arrayvec::ArrayVec;
 use std::marker::Model;
 
 /// A message of a logbook: at most 480 bytes.
-#[derive(Debug, Drop)]
+#[derive(Drop)]
 pub(crate) struct Message {
     content: ArrayVec<u8, 480>,
 }

@@ -8,6 +8,3 @@ mod ports;
 
 pub use calls::sampling_call;
 pub use ports::Ports;
-
-#[cfg(test)]
-mod tests;

@@ -84,7 +84,7 @@ module _ (V K : Type 0) (o : Outside) (trees old : List TreeStore) (k : ℕ) (s 
         (subst (λ (ts : List TreeStore). AllHold V o ts stores) (sym is.same) hold) one
 
     -- all hold what they held
-    pub held-same : (stores : List StoreValue) → AllHold V o old stores → Holds V e new (store_at stores k) → AllHold V e (slice_set trees k new) stores
+    held-same : (stores : List StoreValue) → AllHold V o old stores → Holds V e new (store_at stores k) → AllHold V e (slice_set trees k new) stores
     held-same stores hold one =
         let value = zip_there (Holds V o) old stores k s hold is.there_before in
         let own : store_at stores k ≡ value.0 = get_or_from_slice_get stores k value.0 no_store value.1 in

@@ -192,20 +192,6 @@ impl Trees {
         self.stores[tree as usize].sync(rig, file)
     }
 
-    /// Writes all buffers of a tree back, and makes no sync. All contents stay, and all that is durable stays, also
-    /// after a fault, which comes only where the write faults rose.
-    pub fn write_back<R: Rig>(&mut self, rig: &mut R, tree: u32) -> Result<(), DeviceFault>
-        requires ready { AreReady R.tells_view (R.state rig.old) self.old tree }
-        ensures held { StayHeld R.tells_view (R.state rig.old) (R.state rig.new) self.old self.new }
-        ensures moments { PassesAt R.tells_view tree self.old (λ v. v) (R.state rig.old) (R.state rig.new) }
-        ensures stored { AreStored R.tells_view (R.state rig.new) self.new }
-        ensures acts { AtTree self.old tree (λ store. ActsAt R.tells_view (row_of store).dirty 0
-            (R.state rig.old) (R.state rig.new) self.old self.new) }
-        ensures cause { OnErr result (Rose (R.state rig.old).write_faults (R.state rig.new).write_faults) }
-    {
-        self.stores[tree as usize].write_back(rig)
-    }
-
     /// Makes an empty file of this name in a directory of a tree, durably. ENOSPC comes where all its entries for files
     /// are used, and nothing changes then. After a fault of the device the trees are of no use.
     pub fn make_file<R: Rig>(

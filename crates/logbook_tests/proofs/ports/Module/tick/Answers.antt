@@ -1,7 +1,7 @@
 use Rattle.std.proofs.Common.{◌≤◌, arith}
 use Rattle.std.proofs.lemmas.Grind.{common_steps}
 use Rattle.sampling_ext.proofs.Kept.{later-serving}
-use Rattle.sampling_ext.proofs.tests.Module.tick.Goals as goal
+use Rattle.logbook_tests.proofs.ports.Module.tick.Goals as goal
 
 pub invariant_of-self : goal.invariant_of-self
 invariant_of-self c =

@@ -1,23 +1,15 @@
 ghost use Rattle.std.specs.Prelude.{◌≡◌, IfOk, IfSome};
 ghost use Rattle.logbook_store.specs.Books.{row_of, start_of};
 
-use crate::LogError;
-use crate::book::Book;
-use apex_types::{ByteList, EntryState, FailList, LogCounts, LogbookRow, Name, PartitionId};
+use apex_types::{EntryState, FailList, LogCounts, LogbookRow, Name, PartitionId};
+use logbook_store::{Book, LogError};
 use rig_core::{MemRig, Rig};
 use std::alloc::Global;
-use std::process::Abort;
 use std::test::Fail;
+use test_fixtures::{put, rig_of};
 
 // Two headers and five places of two blocks each.
 const SIZE: u64 = 7168;
-
-pub(crate) fn put(image: &mut [u8], at: usize, bytes: &[u8]) {
-    let size = image.len();
-    if at <= size && bytes.len() <= size - at {
-        image[at..at + bytes.len()].copy_from_slice(bytes);
-    }
-}
 
 // At most four messages logged and two in progress, of at most 16 bytes.
 fn row() -> Result<LogbookRow, Fail>
@@ -37,9 +29,9 @@ fn row() -> Result<LogbookRow, Fail>
     }
 }
 
-// Entries 4 to 7 in their places, of which those up to 4 are cleared.
-fn image(alloc: Global) -> Result<Vec<u8>, Fail> {
-    let mut image = vec![in alloc; 0u8; 7168]?;
+// Entries 4 to 7 in their places, of which those up to 4 are cleared, with another byte at a place.
+fn device(alloc: Global, at: usize, byte: u8) -> Result<MemRig, Fail> {
+    let mut image = [0; 7168];
     put(&mut image, 0, &[0xA5]);
     put(&mut image, 512, &[0, 0, 0, 0, 4]);
     let places = [
@@ -52,13 +44,8 @@ fn image(alloc: Global) -> Result<Vec<u8>, Fail> {
         put(&mut image, gate, &[0xA5]);
         put(&mut image, body, &[number, 0, 0, 0, 2, 0, byte, byte]);
     }
-    Ok(image)
-}
-
-fn rig_of(alloc: Global, image: &[u8]) -> Result<MemRig, Fail> {
-    let mut list = ByteList::new(alloc);
-    list.extend(image)?;
-    Ok(MemRig::new(alloc, list, FailList::new(alloc), 16)?)
+    put(&mut image, at, &[byte]);
+    Ok(rig_of(alloc, &image, FailList::new(alloc))?)
 }
 
 fn mount(rig: &mut MemRig) -> Result<Option<Book>, Fail>
@@ -96,62 +83,68 @@ fn entry(book: &Book, rig: &mut MemRig, number: u32) -> Result<(EntryState, u8, 
     }
 }
 
+// Whether the image by hand is mounted to these counts and entries.
+fn is_mounted_to(alloc: Global, wanted: LogCounts, entries: &[(u32, u8)]) -> Result<bool, Fail> {
+    let mut rig = device(alloc, 0, 0xA5)?;
+    let Some(book) = mount(&mut rig)? else {
+        return Ok(false);
+    };
+    for (number, byte) in entries {
+        if entry(&book, &mut rig, *number)? != (EntryState::Complete, *byte, 2) {
+            return Ok(false);
+        }
+    }
+    Ok(book.counts() == wanted)
+}
+
 #[test]
 fn an_image_by_hand_is_mounted_to_its_lists(rt: HostRuntime) -> Result<(), Fail> {
-    let alloc = rt.alloc();
-    let mut rig = rig_of(alloc, &image(alloc)?)?;
-    let Some(book) = mount(&mut rig)? else {
-        return Err(Fail::from("bad"));
-    };
     let counts = LogCounts {
         life: 7,
         logged: 3,
         progress: 0,
     };
-    assert_eq!(rt; book.counts(), counts);
-    assert_eq!(rt; entry(&book, &mut rig, 1)?, (EntryState::Complete, b'g', 2));
-    assert_eq!(rt; entry(&book, &mut rig, 2)?, (EntryState::Complete, b'f', 2));
-    assert_eq!(rt; entry(&book, &mut rig, 3)?, (EntryState::Complete, b'e', 2));
+    let entries = [(1, b'g'), (2, b'f'), (3, b'e')];
+    assert!(rt; is_mounted_to(rt.alloc(), counts, &entries)?);
     Ok(())
 }
 
-// A byte of the image by hand that makes it bad, or leaves it good.
-fn is_mounted(alloc: Global, at: usize, byte: u8) -> Result<bool, Fail> {
-    let mut bytes = image(alloc)?;
-    put(&mut bytes, at, &[byte]);
-    let mut rig = rig_of(alloc, &bytes)?;
-    Ok(mount(&mut rig)?.is_some())
+fn is_good(alloc: Global, at: usize, byte: u8) -> Result<bool, Fail> {
+    Ok(mount(&mut device(alloc, at, byte)?)?.is_some())
 }
 
 #[test]
 fn a_region_is_bad_by_one_byte(rt: HostRuntime) -> Result<(), Fail> {
-    let alloc = rt.alloc();
-    // No header is newest, or it is spelled wrong.
-    assert!(rt; !is_mounted(alloc, 0, 0)?);
-    assert!(rt; !is_mounted(alloc, 512, 3)?);
-    assert!(rt; !is_mounted(alloc, 513, 1)?);
-    // A logged number is missing.
-    assert!(rt; !is_mounted(alloc, 3072, 0)?);
-    // A number stands in another's place, and a message is too long or none.
-    assert!(rt; !is_mounted(alloc, 3584, 7)?);
-    assert!(rt; !is_mounted(alloc, 3588, 17)?);
-    assert!(rt; !is_mounted(alloc, 3588, 0)?);
-    // A closed place and a cleared entry may hold anything.
-    assert!(rt; is_mounted(alloc, 5632, 9)?);
-    assert!(rt; is_mounted(alloc, 6144, 0)?);
+    let rows = [
+        // No header is newest, or it is spelled wrong.
+        (0, 0, false),
+        (512, 3, false),
+        (513, 1, false),
+        // A logged number is missing.
+        (3072, 0, false),
+        // A number stands in another's place, and a message is too long or none.
+        (3584, 7, false),
+        (3588, 17, false),
+        (3588, 0, false),
+        // A closed place and a cleared entry may hold anything.
+        (5632, 9, true),
+        (6144, 0, true),
+    ];
+    for (at, byte, good) in rows {
+        assert!(rt; is_good(rt.alloc(), at, byte)? == good, "{byte} at {at}");
+    }
     Ok(())
 }
 
 #[test]
 fn errors_are_told(rt: HostRuntime) -> Result<(), Fail> {
-    let alloc = rt.alloc();
     let texts = [
         (LogError::Bad { logbook: 2 }, "logbook 2 is bad"),
         (LogError::Device, "the device failed"),
         (LogError::Memory, "no memory is left"),
     ];
     for (error, text) in texts {
-        let told = format!(in alloc; "{error}")?;
+        let told = format!(in rt.alloc(); "{error}")?;
         assert_eq!(rt; told.as_str(), text);
     }
     Ok(())

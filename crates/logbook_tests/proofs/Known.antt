@@ -1,5 +1,5 @@
--- What the logbooks of a test's device know.
-use Rattle.std.proofs.Common.{◌≡◌, ℕ, zero, suc, ◌+◌, List, [], ◌∷◌, length, Option, Some, None, refl, sym, ◌∙◌, ap, subst}
+-- What a device's logbooks know in the tests.
+use Rattle.std.proofs.Common.{◌≡◌, ℕ, zero, suc, ◌+◌, List, [], ◌∷◌, length, Option, Some, None, refl, sym, ◌∙◌, ap, subst, arith}
 use Rattle.std.specs.Prelude.{slice_get, slice_index_or, IfSome}
 use Rattle.std.specs.List.{AllByRecursion}
 use Rattle.std.proofs.lemmas.List.{length-map}
@@ -12,7 +12,7 @@ use Rattle.rig_core.specs.Outside.{Outside, Sound, OnlyReads}
 use Rattle.rig_core.specs.Leaves.{IsAllSettled}
 use Rattle.rig_core.proofs.Moments.{now_none}
 use Rattle.logbook_store.specs.Books.{row_of, life_of, logged_of, progress_of, counts_of, Stands}
-use Rattle.logbook_store.specs.Logs.{Site, site_of, sites_of, sites_from, StandFor}
+use Rattle.logbook_store.specs.Logs.{Site, site_of, sites_of, sites_from, AreLaidOut, StandFor}
 use Rattle.logbook_store.specs.declared.book.Book.{Book}
 use Rattle.logbook_store.proofs.Zips.{zip_at}
 
@@ -68,3 +68,17 @@ pub still : (V K : Type 0) (o e : Outside) → Sound V K e → OnlyReads V o e �
 still V K o e sound reads all image told now =
     let before = now_none o e sound reads.later.clock reads.cuts image told now in
     all image told before ∙ sym (reads.view (sound.shown e.clock image told now))
+
+-- two logbooks with nothing logged
+pub none_logged : (logs : List Book) → length logs ≡ 2 → IfSome (slice_get logs 0) (λ book. logged_of book ≡ 0) → IfSome (slice_get logs 1) (λ book. logged_of book ≡ 0)
+    → (k : ℕ) (book : Book) → slice_get logs k ≡ Some book → logged_of book ≡ 0
+none_logged [] two first second k book is = absurd (omega (arith, two))
+none_logged (a ∷ []) two first second k book is = absurd (omega (arith, two))
+none_logged (a ∷ b ∷ []) two first second zero book is = let same : a ≡ book = cc in subst (λ (x : Book). logged_of x ≡ 0) same first
+none_logged (a ∷ b ∷ []) two first second (suc zero) book is = let same : b ≡ book = cc in subst (λ (x : Book). logged_of x ≡ 0) same second
+none_logged (a ∷ b ∷ []) two first second (suc (suc k)) book is = absurd cc
+none_logged (a ∷ b ∷ c ∷ logs) two first second k book is = absurd (omega (arith, two))
+
+-- the regions stay where they are
+pub still_laid : (sites new_sites : List Site) (size new_size : ℕ) → new_sites ≡ sites → new_size ≡ size → AreLaidOut sites size → AreLaidOut new_sites new_size
+still_laid sites new_sites size new_size same long laid = subst (λ (s : List Site). AreLaidOut s new_size) (sym same) (subst (AreLaidOut sites) (sym long) laid)

@@ -2,8 +2,8 @@ use Rattle.std.proofs.Common.{◌+◌, ◌<◌, ◌≤◌, length, arith}
 use Rattle.rig_core.specs.MemRig.{mem_state}
 use Rattle.logbook_store.specs.Books.{row_of, life_of, progress_of}
 use Rattle.logbook_store.specs.declared.book.Book.{Book}
-use Rattle.logbook_store.proofs.Tested.{counted, if_some, small_at}
-use Rattle.logbook_store.proofs.move_tests.Device.add.Goals as goal
+use Rattle.logbook_tests.proofs.Known.{counted, if_some, small_at}
+use Rattle.logbook_tests.proofs.moves.Device.add.Goals as goal
 
 pub add-requires-clause-size : goal.add-requires-clause-size
 add-requires-clause-size c = if_some (λ (book : Book). length c.args.bytes.now ≤ (row_of book).message_size) c.self.inside.logs c.args.logbook (λ book at.

@@ -2,18 +2,16 @@ ghost use Rattle.std.specs.Prelude.{◌≡◌, IfOk, length};
 ghost use Rattle.std.specs.List.{AllByRecursion};
 ghost use Rattle.apex_model.specs.Accepted.{IsAccepted};
 ghost use Rattle.apex_model.specs.Layout.{layout_blocks};
-ghost use Rattle.rig_core.specs.Leaves.{IsAllSettled};
-ghost use Rattle.rig_core.specs.MemRig.{mem_state};
 
-use crate::Logs;
-use crate::tests::put;
 use apex_types::{
-    ByteList, EntryState, FailList, LogCounts, LogbookRow, Name, PartitionId, PartitionRow, Table,
+    EntryState, FailList, LogCounts, LogbookRow, Name, PartitionId, PartitionRow, Table,
 };
+use logbook_store::Logs;
 use rig_core::{MemRig, Rig};
 use std::alloc::Global;
 use std::marker::Model;
 use std::test::Fail;
+use test_fixtures::{put, rig_of};
 
 // Behind the table's 33 blocks, two logbooks of two headers and five places of two blocks each.
 const FIRST: usize = 16_896;
@@ -84,18 +82,10 @@ fn two_logbooks(alloc: Global) -> Result<Table, Fail>
     Ok(table)
 }
 
-fn rig_of(alloc: Global, image: &[u8]) -> Result<MemRig, Fail>
-    ensures { IfOk result (λ rig. IsAllSettled (mem_state rig)) }
-{
-    let mut list = ByteList::new(alloc);
-    list.extend(image)?;
-    Ok(MemRig::new(alloc, list, FailList::new(alloc), 128)?)
-}
-
 impl Device {
     fn mount(alloc: Global, image: &[u8]) -> Result<Device, Fail> {
         let table = two_logbooks(alloc)?;
-        let mut rig = rig_of(alloc, image)?;
+        let mut rig = rig_of(alloc, image, FailList::new(alloc))?;
         if rig.size() < SIZE as u64 {
             return Err(Fail::from("size"));
         }
@@ -159,8 +149,8 @@ impl Device {
 }
 
 // The first logbook has entries 3 to 7, the oldest in the place of the next, and the second has none.
-fn image(alloc: Global) -> Result<Vec<u8>, Fail> {
-    let mut image = vec![in alloc; 0u8; SIZE]?;
+fn mounted(alloc: Global) -> Result<Device, Fail> {
+    let mut image = [0; SIZE];
     put(&mut image, FIRST, &[0xA5]);
     put(&mut image, SECOND, &[0xA5]);
     let places = [
@@ -174,12 +164,12 @@ fn image(alloc: Global) -> Result<Vec<u8>, Fail> {
         put(&mut image, gate, &[0xA5]);
         put(&mut image, body, &[number, 0, 0, 0, 1, 0, b'a']);
     }
-    Ok(image)
+    Device::mount(alloc, &image)
 }
 
 // With a message in progress in the first logbook, and two in the second.
 fn filled(alloc: Global) -> Result<Device, Fail> {
-    let mut device = Device::mount(alloc, &image(alloc)?)?;
+    let mut device = mounted(alloc)?;
     if !device.add(0, b"one") {
         return Err(Fail::from("one"));
     }
@@ -200,32 +190,54 @@ fn counts(life: u32, logged: u32, progress: u32) -> Option<LogCounts> {
     })
 }
 
+fn all_counts(device: &Device) -> [Option<LogCounts>; 2] {
+    [device.counts(0), device.counts(1)]
+}
+
+fn moved_counts(alloc: Global) -> Result<[Option<LogCounts>; 2], Fail> {
+    let device = filled(alloc)?.move_all()?;
+    Ok(all_counts(&device))
+}
+
+// Whether these are entries of the two logbooks once the oldest messages have moved.
+fn are_moved(alloc: Global, entries: &[(u32, u32, (EntryState, u8))]) -> Result<bool, Fail> {
+    for (logbook, number, entry) in entries {
+        let found = filled(alloc)?.move_all()?.entry(*logbook, *number)?;
+        if found != *entry {
+            return Ok(false);
+        }
+    }
+    Ok(true)
+}
+
 #[test]
 fn the_oldest_messages_of_all_logbooks_move(rt: HostRuntime) -> Result<(), Fail> {
-    let alloc = rt.alloc();
-    let device = filled(alloc)?.move_all()?;
-    assert_eq!(rt; device.counts(0), counts(8, 4, 0));
-    assert_eq!(rt; device.counts(1), counts(1, 1, 1));
-    assert_eq!(rt; device.entry(1, 1)?, (EntryState::InProgress, b'm'));
+    let entries = [
+        (1, 1, (EntryState::InProgress, b'm')),
+        (1, 2, (EntryState::Complete, b't')),
+        (0, 1, (EntryState::Complete, b'o')),
+    ];
     assert_eq!(rt;
-        filled(alloc)?.move_all()?.entry(1, 2)?,
-        (EntryState::Complete, b't')
+        moved_counts(rt.alloc())?,
+        [counts(8, 4, 0), counts(1, 1, 1)]
     );
-    assert_eq!(rt;
-        filled(alloc)?.move_all()?.entry(0, 1)?,
-        (EntryState::Complete, b'o')
-    );
+    assert!(rt; are_moved(rt.alloc(), &entries)?);
     Ok(())
+}
+
+// The messages in progress move, and so does one that replaces the newest of the second logbook.
+fn replaced(alloc: Global) -> Result<Device, Fail> {
+    let mut device = filled(alloc)?.move_all()?;
+    if !device.replace_newest(1, b"new") {
+        return Err(Fail::from("new"));
+    }
+    device.move_all()
 }
 
 #[test]
 fn a_replaced_message_moves(rt: HostRuntime) -> Result<(), Fail> {
-    let alloc = rt.alloc();
-    let mut device = filled(alloc)?.move_all()?;
-    assert!(rt; device.replace_newest(1, b"new"));
-    let device = device.move_all()?;
-    assert_eq!(rt; device.counts(0), counts(8, 4, 0));
-    assert_eq!(rt; device.counts(1), counts(2, 2, 0));
+    let device = replaced(rt.alloc())?;
+    assert_eq!(rt; all_counts(&device), [counts(8, 4, 0), counts(2, 2, 0)]);
     assert_eq!(rt; device.entry(1, 1)?, (EntryState::Complete, b'n'));
     Ok(())
 }

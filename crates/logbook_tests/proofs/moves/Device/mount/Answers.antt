@@ -4,8 +4,8 @@ use Rattle.apex_model.specs.Durable.{loaded_book}
 use Rattle.rig_core.specs.MemRig.{mem_state, mem_sound}
 use Rattle.rig_core.proofs.Regions.{settled_all}
 use Rattle.logbook_store.specs.Logs.{sites_of, sites_from, size_of, AreLaidOut, StandFor}
-use Rattle.logbook_store.proofs.Tested.{count_from, IsSmall, sites_small, still}
-use Rattle.logbook_store.proofs.move_tests.Device.mount.Goals as goal
+use Rattle.logbook_tests.proofs.Known.{count_from, IsSmall, sites_small, still}
+use Rattle.logbook_tests.proofs.moves.Device.mount.Goals as goal
 
 pub invariant_of-result : goal.invariant_of-result
 invariant_of-result c =
@@ -15,7 +15,7 @@ invariant_of-result c =
     let e = mem_state c.mount.new.rig in
     let sites : sites_of logs ≡ sites_from table 0 table.logbooks = c.in-Ok.ensures.sites in
     let reads = c.mount.ensures.reads in
-    let all = still (Unit {0}) (Unit {0}) o e (mem_sound c.mount.new.rig) reads c.in_ok-rig.ensures in
+    let all = still (Unit {0}) (Unit {0}) o e (mem_sound c.mount.new.rig) reads c.in_ok-rig.ensures.settled in
     let found = c.in-Ok.ensures.stands tt in (
       count_from table logs sites ∙ c.in_ok-table.ensures.two,
       subst (AllByRecursion IsSmall) (sym sites) (sites_small table 0 table.logbooks c.in_ok-table.ensures.small),
