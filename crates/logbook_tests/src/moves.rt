@@ -217,10 +217,7 @@ fn the_oldest_messages_of_all_logbooks_move(rt: HostRuntime) -> Result<(), Fail>
         (1, 2, (EntryState::Complete, b't')),
         (0, 1, (EntryState::Complete, b'o')),
     ];
-    assert_eq!(rt;
-        moved_counts(rt.alloc())?,
-        [counts(8, 4, 0), counts(1, 1, 1)]
-    );
+    assert!(rt; moved_counts(rt.alloc())? == [counts(8, 4, 0), counts(1, 1, 1)]);
     assert!(rt; are_moved(rt.alloc(), &entries)?);
     Ok(())
 }
@@ -237,7 +234,7 @@ fn replaced(alloc: Global) -> Result<Device, Fail> {
 #[test]
 fn a_replaced_message_moves(rt: HostRuntime) -> Result<(), Fail> {
     let device = replaced(rt.alloc())?;
-    assert_eq!(rt; all_counts(&device), [counts(8, 4, 0), counts(2, 2, 0)]);
-    assert_eq!(rt; device.entry(1, 1)?, (EntryState::Complete, b'n'));
+    assert!(rt; all_counts(&device) == [counts(8, 4, 0), counts(2, 2, 0)]);
+    assert!(rt; device.entry(1, 1)? == (EntryState::Complete, b'n'));
     Ok(())
 }

@@ -4,7 +4,7 @@ ghost use Rattle.apex_model.specs.Lines.{SamplingCallHasBytes};
 
 use apex_types::{
     ChannelRow, Destinations, Mode, Name, OutOfMemory, PartitionId, PartitionRow, PortRow, Reply,
-    SamplingCall, Table, Token,
+    ReturnCode, SamplingCall, Table, Token, Updated, Validity, Values,
 };
 use sampling_ext::{Ports, sampling_call};
 use std::alloc::Global;
@@ -150,6 +150,89 @@ impl Module {
     }
 }
 
+fn code_word(code: ReturnCode) -> &'static str {
+    match code {
+        ReturnCode::NoError => "NoError",
+        ReturnCode::NoAction => "NoAction",
+        ReturnCode::InvalidParam => "InvalidParam",
+        ReturnCode::InvalidConfig => "InvalidConfig",
+        ReturnCode::InvalidMode => "InvalidMode",
+        _ => "other",
+    }
+}
+
+fn updated_word(updated: Updated) -> &'static str {
+    match updated {
+        Updated::EmptyPort => "EmptyPort",
+        Updated::NewMessage => "NewMessage",
+        Updated::ConsumedMessage => "ConsumedMessage",
+    }
+}
+
+fn validity_word(validity: Validity) -> &'static str {
+    match validity {
+        Validity::Valid => "Valid",
+        Validity::Invalid => "Invalid",
+    }
+}
+
+/// The values of a reply in words.
+fn values_text(alloc: Global, values: &Values) -> Result<String, Fail> {
+    let text = match values {
+        Values::Empty => format!(in alloc; "Empty")?,
+        Values::Number(number) => format!(in alloc; "Number({number})")?,
+        Values::State(updated) => format!(in alloc; "State({})", updated_word(*updated))?,
+        Values::SourceStatus { size, refresh } => {
+            format!(in alloc; "SourceStatus {{ size: {size}, refresh: {refresh} }}")?
+        }
+        Values::EmptyStatus { size, refresh } => {
+            format!(in alloc; "EmptyStatus {{ size: {size}, refresh: {refresh} }}")?
+        }
+        _ => filled_text(alloc, values)?,
+    };
+    Ok(text)
+}
+
+/// Those of a port that has a message.
+fn filled_text(alloc: Global, values: &Values) -> Result<String, Fail> {
+    let text = match values {
+        Values::Message {
+            updated,
+            validity,
+            bytes,
+        } => {
+            let updated = updated_word(*updated);
+            let validity = validity_word(*validity);
+            let bytes = bytes.bytes();
+            format!(in alloc;
+                "Message {{ updated: {updated}, validity: {validity}, bytes: Bytes {{ content: {bytes:?} }} }}"
+            )?
+        }
+        Values::PortStatus {
+            size,
+            refresh,
+            updated,
+            validity,
+            age,
+        } => {
+            let updated = updated_word(*updated);
+            let validity = validity_word(*validity);
+            format!(in alloc;
+                "PortStatus {{ size: {size}, refresh: {refresh}, updated: {updated}, validity: {validity}, age: {age} }}"
+            )?
+        }
+        _ => format!(in alloc; "other")?,
+    };
+    Ok(text)
+}
+
+/// Whether a reply is told by these words: its code and its values.
+fn is_told(alloc: Global, reply: &Reply, wanted: &str) -> Result<bool, Fail> {
+    let values = values_text(alloc, &reply.values)?;
+    let told = format!(in alloc; "{} {}", code_word(reply.code), values.as_str())?;
+    Ok(told.as_str() == wanted)
+}
+
 /// Makes calls, each after so many ticks, and answers the first step that is answered otherwise.
 fn first_other(
     alloc: Global,
@@ -160,8 +243,7 @@ fn first_other(
     for (k, (ticks, p, act, wanted)) in steps.iter().enumerate() {
         module.tick(*ticks);
         let reply = module.call(alloc, *p, mode, *act)?;
-        let told = format!(in alloc; "{:?} {:?}", reply.code, reply.values)?;
-        if told.as_str() != *wanted || reply.errno.is_some() {
+        if reply.errno.is_some() || !is_told(alloc, &reply, wanted)? {
             return Ok(Some(k));
         }
     }
