@@ -49,15 +49,16 @@ compare() {
 # Runs one example by rt try: no proof is made or read.
 try_run() {
     echo "Running apexhost without its proof. The command that proves it: rt ci (or sh demo.sh proved)."
-    show_script module.toml first_run.script
-    echo "== told by: apexhost run"
-    (cd "$crate" && rt try --data module.toml="$top/examples/module.toml" -- run) <"$top/examples/first_run.script" >"$room/log" 2>&1
+    show_script small.toml one_file.script
+    echo "== told by: apexhost run, over a formatted image"
+    (cd "$crate" && rt try --data module.toml="$top/examples/small.toml" --data disk.img=data/disk.img -- run) \
+        <"$top/examples/one_file.script" >"$room/log" 2>&1
     grep -E '^[0-9]+ ' "$room/log" >"$room/told"
     cat "$room/told"
     grep -q '^run=ended status=0' "$room/log"
-    compare $? first_run.told
+    compare $? one_file.told
     echo
-    echo "These are the lines of examples/first_run.told, worked out apart from the program."
+    echo "These are the lines of examples/one_file.told, worked out apart from the program."
 }
 
 # Builds the proved program, with a line for each crate and the minutes so far.
@@ -81,11 +82,12 @@ build() {
     fi
 }
 
-# Shows the script of an example, runs it over the example's table, and compares what was told.
+# Shows the script of an example, runs it over a formatted image of the example's table, and compares what was told.
 # $1 the table, $2 the script, $3 the lines that are to be told
 show_run() {
     mkdir "$room/run" && cp "$top/examples/$1" "$room/run/module.toml" || exit 1
     show_script "$1" "$2"
+    (cd "$room/run" && "$program" format) </dev/null >/dev/null
     (cd "$room/run" && "$program" run) <"$top/examples/$2" >"$room/told"
     status=$?
     echo "== told by: apexhost run"

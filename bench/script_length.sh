@@ -87,6 +87,7 @@ def seconds(room, script, trees):
     calls = sum(1 for line in script if not line.startswith("TICK"))
     best = None
     for _ in range(RUNS):
+        subprocess.run([PROGRAM, "format"], cwd=folder, stdin=subprocess.DEVNULL, capture_output=True, check=True)
         told = os.path.join(room, "told")
         with open(source, "rb") as given, open(told, "wb") as into:
             begun = time.perf_counter()

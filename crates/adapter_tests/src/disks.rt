@@ -1,6 +1,7 @@
 //! Files of the system as disks.
 ghost use Rattle.std.specs.Prelude.{◌≤◌, ◌+◌, length};
 
+use crate::guarded::Guarded;
 use crate::paths::temporary_path;
 use rig_core::Rig;
 use std::cell::Cell;
@@ -58,6 +59,39 @@ where
         && gives(rig, 67_108_860, b"\0\0\0z")
 }
 
+/// Whether a disk without a file has its size, gives zeros, and has nothing to flush.
+fn is_empty_disk<R, F, W>(rig: &mut FileRig<R, F, W>) -> bool
+where
+    R: Files<File = F>,
+    F: FileExt + OpenFile + Drop,
+    W: Write,
+{
+    rig.size() == 67_108_864 && gives(rig, 512, b"\0\0\0\0") && rig.sync().is_ok()
+}
+
+/// Whether a disk that begins with `disk` is read, and not written before and behind a read.
+fn is_only_read<R, F, W>(rig: &mut FileRig<R, F, W>) -> bool
+where
+    R: Files<File = F>,
+    F: FileExt + OpenFile + Drop,
+    W: Write,
+{
+    rig.write(0, b"x").is_err()
+        && gives(rig, 2, b"sk\0\0")
+        && rig.write(0, b"x").is_err()
+        && gives(rig, 0, b"disk")
+}
+
+/// Whether a write is flushed at the second of three syncs, and the third one goes well.
+fn is_flushed<R, F, W>(rig: &mut FileRig<R, F, W>) -> bool
+where
+    R: Files<File = F>,
+    F: FileExt + OpenFile + Drop,
+    W: Write,
+{
+    rig.write(0, b"x").is_ok() && rig.sync().is_err() && rig.sync().is_ok() && rig.sync().is_ok()
+}
+
 /// Whether each call of the disk fails.
 fn fails<R, F, W>(rig: &mut FileRig<R, F, W>) -> bool
 where
@@ -72,13 +106,11 @@ where
 }
 
 #[test]
-fn an_absent_file_is_made_at_the_first_call_of_the_disk(rt: HostRuntime) -> Result<(), Fail> {
+fn an_absent_file_is_made_by_the_first_write(rt: HostRuntime) -> Result<(), Fail> {
     let path = temporary_path(&rt, "absent")?;
-    let mut rig = FileRig::new(&rt, path.as_str(), Cursor::new([b'.'; 8]));
-    assert!(rt; rig.size() == 67_108_864 && rig.tell(b"1 LINE\n").is_ok());
-    assert!(rt; !fs::exists(&rt, path.as_str())?);
-    assert!(rt; gives(&mut rig, 512, b"\0\0\0\0"));
-    assert!(rt; fs::exists(&rt, path.as_str())?);
+    let mut rig = FileRig::new(&rt, path.as_str(), no_output());
+    assert!(rt; is_empty_disk(&mut rig) && !fs::exists(&rt, path.as_str())?);
+    assert!(rt; rig.write(1, b"x").is_ok() && gives(&mut rig, 0, b"\0x\0\0"));
     fs::remove_file(&rt, path.as_str())?;
     Ok(())
 }
@@ -87,11 +119,30 @@ fn an_absent_file_is_made_at_the_first_call_of_the_disk(rt: HostRuntime) -> Resu
 fn what_is_written_is_read_by_the_next_rig(rt: HostRuntime) -> Result<(), Fail> {
     let path = temporary_path(&rt, "kept")?;
     let mut rig = FileRig::new(&rt, path.as_str(), no_output());
-    assert!(rt; rig.sync().is_ok() && fs::exists(&rt, path.as_str())?);
     assert!(rt; is_filled(&mut rig));
     drop(rig);
     let mut next = FileRig::new(&rt, path.as_str(), no_output());
     assert!(rt; gives_the_filled(&mut next));
+    fs::remove_file(&rt, path.as_str())?;
+    Ok(())
+}
+
+#[test]
+fn a_file_that_may_only_be_read_refuses_each_write(rt: HostRuntime) -> Result<(), Fail> {
+    let path = temporary_path(&rt, "locked")?;
+    fs::write(&rt, path.as_str(), "disk")?;
+    let files = Guarded::new(&rt, false);
+    assert!(rt; is_only_read(&mut FileRig::new(&files, path.as_str(), no_output())));
+    fs::remove_file(&rt, path.as_str())?;
+    Ok(())
+}
+
+#[test]
+fn the_folder_of_the_file_is_flushed_once(rt: HostRuntime) -> Result<(), Fail> {
+    let path = temporary_path(&rt, "named")?;
+    let files = Guarded::new(&rt, true);
+    assert!(rt; is_flushed(&mut FileRig::new(&files, path.as_str(), no_output())));
+    assert!(rt; files.folders_opened() == 2);
     fs::remove_file(&rt, path.as_str())?;
     Ok(())
 }

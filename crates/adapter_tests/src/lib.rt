@@ -6,6 +6,8 @@ mod arguments;
 #[cfg(test)]
 mod disks;
 #[cfg(test)]
+mod guarded;
+#[cfg(test)]
 mod outputs;
 #[cfg(test)]
 mod paths;

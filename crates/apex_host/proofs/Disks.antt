@@ -1,21 +1,19 @@
 -- What a cut may leave while lines are told.
-use Rattle.std.proofs.Common.{◌≡◌, ℕ, ◌⊎◌, inl, inr, ⊎_elim, List, length, Option, Some, None, refl, sym, ap, subst, ◌∙◌, arith}
+use Rattle.std.proofs.Common.{◌≡◌, ◌≢◌, ℕ, ◌⊎◌, inl, inr, ⊎_elim, List, length, Option, Some, refl, sym, ap, subst, ◌∙◌, arith}
 use Rattle.rig_core.specs.Bytes.{byte}
-use Rattle.rig_core.specs.Leaves.{Leaves, IsAllSettled}
-use Rattle.rig_core.specs.Outside.{Outside, Sound, Later, MakesAtMost, Speaks}
+use Rattle.rig_core.specs.Leaves.{Leaves, LeavesPairs, IsAllSettled}
+use Rattle.rig_core.specs.Outside.{Outside, Sound, Later, MakesAtMost, Speaks, OnlyReads}
 use Rattle.rig_core.proofs.Moments.{pairs_none, pairs_then, pairs_weaker, leaves_both}
 use Rattle.apex_types.specs.Rows.{Rows}
 use Rattle.recover_scan.specs.Format.{OldOrFormatted, KeepsRest}
 use Rattle.recover_scan.proofs.Changes.{later_same, later_then}
 use Rattle.apex_host.specs.Disk.{WasLeft, OnlyTells, IsUntouched, IsMomentOfFormat, FormatsDisk, HoldsEmpty, IsEmptied, BeginsFormat, MakesEmpty, LeavesDisk, untouched, formatted, format_failed}
 use Rattle.apex_host.specs.Endings.{IsTableOf}
-use Rattle.apex_host.specs.Stops.{ending_of}
+use Rattle.apex_host.specs.Told.{IsTold}
 use Rattle.apex_host.specs.declared.command.Command.{Command}
-use Rattle.apex_host.specs.declared.command.Command.TheVariants.{Format, Run}
+use Rattle.apex_host.specs.declared.command.Command.TheVariants.{Format}
 use Rattle.apex_host.specs.declared.status.Status.{Status}
-use Rattle.apex_host.specs.declared.status.Status.TheVariants.{Done, ReplyFault}
-use Rattle.apex_host.specs.declared.stops.Stop.{Stop}
-use Rattle.apex_host.specs.declared.stops.Stop.TheVariants as stop
+use Rattle.apex_host.specs.declared.status.Status.TheVariants.{Done, DeviceFault, ReplyFault}
 
 -- nothing was done
 pub tells-none : (V : Type 0) (o : Outside) → OnlyTells V o o
@@ -64,11 +62,36 @@ leaves-untouched V o e settled tells = record {
   cuts = pairs_weaker (λ image told. WasLeft o image) (λ image told. image ≡ o.view) o e (λ image told was. settled image was.0 was.1) tells.cuts;
 }
 
-pub words-leave : {V : Type 0} {left : Option (List ℕ)} {result : Status} (o e : Outside) → IsAllSettled o → OnlyTells V o e → LeavesDisk V left o e None result
-words-leave {V} {left} {result} o e settled tells = untouched None result (λ is done. let w : ◌≡◌ {A = Option Command} None (Some Format) = is in cc) (leaves-untouched V o e settled tells)
+-- ---- reads
 
-pub run-leaves : {V : Type 0} {left : Option (List ℕ)} {result : Status} (o e : Outside) → IsAllSettled o → OnlyTells V o e → LeavesDisk V left o e (Some Run) result
-run-leaves {V} {left} {result} o e settled tells = untouched (Some Run) result (λ is done. let w : ◌≡◌ {A = Option Command} (Some Run) (Some Format) = is in cc) (leaves-untouched V o e settled tells)
+-- reads alone
+pub reads-tell : (V : Type 0) (o m : Outside) → OnlyReads V o m → OnlyTells V o m
+reads-tell V o m reads = record {
+  later = reads.later;
+  writes = omega (arith, reads.made.writes);
+  syncs = omega (arith, reads.made.syncs);
+  view = reads.view;
+  cuts = record {
+    clock = reads.later.clock;
+    each = λ image told left. (told, reads.cuts o.clock image told (omega arith) left);
+    before = λ u image told le left. inl (reads.cuts u image told le left);
+  };
+}
+
+-- what a cut leaves since reads were made, it leaves since before them
+pub pairs-after-reads : (V : Type 0) (P : List ℕ → List ℕ → Type 0) (o m e : Outside) → OnlyReads V o m → LeavesPairs P m e → LeavesPairs P o e
+pairs-after-reads V P o m e reads run = record {
+  clock = omega (arith, run.clock, reads.clock);
+  each = λ image told left. run.each image told (subst (λ (t : ℕ). e.may_leave t image told) (sym reads.clock) left);
+  before = λ u image told le left. ⊎_elim (λ was. inl (reads.cuts u image told le was)) (λ has. inr has) (run.before u image told (omega (arith, le, reads.clock)) left);
+}
+
+-- ---- a command that does nothing to the disk
+
+module _ {T V : Type 0} {table script : Option (List ℕ)} (command : Option Command) {result status : Status} {line : List ℕ} (o m e : Outside) where
+  -- a status that isn't Done is told, or that telling it failed
+  pub refusal-leaves : IsTold T line status m e result → status ≢ Done → IsUntouched V o e → LeavesDisk T V table script o e command result
+  refusal-leaves told undone is = untouched command result (λ done. ⊎_elim (λ all. undone (sym all.0 ∙ done)) (λ part. let w : ReplyFault ≡ Done = sym part.0 ∙ done in cc) told) is
 
 -- ---- a line that is told after a format
 
@@ -100,16 +123,13 @@ module _ (V K : Type 0) {left : Option (List ℕ)} (o m e : Outside) (sound : So
   unfolding begun-told
   made-told after made tells = record { begins = begun-told made.begins tells; holds = holds-told V K made.begins.rows o m e after made.holds tells }
 
-module _ {V : Type 0} {left : Option (List ℕ)} (o e : Outside) {result : Status} where
-  pub format-leaves : (result ≡ Done) ⊎ (result ≡ ReplyFault) → MakesEmpty V left o e → LeavesDisk V left o e (Some Format) result
-  format-leaves ends made =
-      ⊎_elim (λ done. subst (λ (r : Status). LeavesDisk V left o e (Some Format) r) (sym done) (formatted made)) (λ fault. format_failed result (inr fault) made.begins) ends
+module _ {T V : Type 0} {left script : Option (List ℕ)} {result status : Status} {line : List ℕ} (o m e : Outside) (told : IsTold T line status m e result) where
+  pub format-leaves : status ≡ Done → MakesEmpty V left o e → LeavesDisk T V left script o e (Some Format) result
+  format-leaves done made =
+      ⊎_elim (λ all. subst (λ (r : Status). LeavesDisk T V left script o e (Some Format) r) (sym (all.0 ∙ done)) (formatted made)) (λ part. format_failed result (inr part.0) made.begins) told
 
-  pub refusal-leaves : (result ≡ Done → ⊥) → IsUntouched V o e → LeavesDisk V left o e (Some Format) result
-  refusal-leaves refused is = untouched (Some Format) result (λ f done. refused done) is
-
-  pub fault-leaves : (s : Stop) → s ≡ stop.Device → (result ≡ (ending_of s).status) ⊎ (result ≡ ReplyFault) → BeginsFormat left o e → LeavesDisk V left o e (Some Format) result
-  fault-leaves s device ends begun = format_failed result (⊎_elim (λ h. inl (h ∙ ap (λ (x : Stop). (ending_of x).status) device)) (λ h. inr h) ends) begun
+  pub fault-leaves : status ≡ DeviceFault → BeginsFormat left o e → LeavesDisk T V left script o e (Some Format) result
+  fault-leaves device begun = format_failed result (⊎_elim (λ all. inl (all.0 ∙ device)) (λ part. inr part.0) told) begun
 
 -- ---- at every moment of a format
 

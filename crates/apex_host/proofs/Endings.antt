@@ -1,154 +1,156 @@
 -- How a command ends, step by step.
-use Rattle.std.proofs.Common.{◌≡◌, ◌≢◌, ℕ, ◌<◌, ◌≤◌, ◌⊎◌, inl, inr, ⊎_elim, List, [], ◌++◌, Option, Some, None, refl, sym, ◌∙◌, ap, subst, arith, append_assoc}
-use Rattle.std.specs.Prelude.{take, Result, Ok, Err}
-use Rattle.std.proofs.lemmas.List.{append-nil}
+use Rattle.std.proofs.Common.{◌≡◌, ℕ, ◌<◌, ◌≤◌, ◌⊎◌, inl, inr, ⊎_elim, List, [], ◌++◌, Option, Some, None, refl, sym, ◌∙◌, ap, subst, arith}
+use Rattle.std.specs.Prelude.{length, take, slice_get, Result, Ok, Err}
 use Rattle.std.proofs.lemmas.Bool.{cases_lt}
 use Rattle.apex_types.specs.Rows.{Rows}
 use Rattle.apex_types.specs.declared.calls.Line.{Line}
 use Rattle.rig_core.specs.Causes.{Rose}
-use Rattle.rig_core.specs.Outside.{Outside, IsToldPart, Later}
+use Rattle.rig_core.specs.Outside.{Outside, Later}
 use Rattle.apex_model.specs.Layout.{layout_blocks}
-use Rattle.recover_scan.specs.Format.{FailsFor}
 use Rattle.recover_scan.specs.declared.errors.FormatError.{FormatError}
 use Rattle.recover_scan.specs.declared.errors.FormatError.TheVariants as format
 use Rattle.call_script.specs.Errors.{refusal_of}
-use Rattle.apex_host.specs.Endings.{Seen, seen, image_bytes, Ends, usage, table_fault, table_refused, starved, too_small, device_fault, formatted, script_fault, script_refused, ran, starved_in_line, EndsSo, GaveTable, GaveScript}
-use Rattle.apex_host.specs.Stops.{StopsTable, StopsScript, Ending, told_with, ending_of, Owes}
-use Rattle.apex_host.specs.Told.{TellsPart, fresh_text, usage_line, formatted_line, too_small_line}
+use Rattle.apex_model.specs.Image.{too_small}
+use Rattle.apex_model.specs.Run.{fault_line}
+use Rattle.apex_host.specs.Endings.{Seen, seen, image_bytes, IsRunText, LineFailed, Ends, usage, table_fault, table_refused, starved, too_small_to_format, format_fault, formatted, script_fault, script_refused, image_refused, mount_fault, fault_in_line, ran, EndsSo, GaveTable, GaveScript}
+use Rattle.apex_host.specs.Stops.{told_with, StopsTable, StopsScript, StopsMount, Owes}
+use Rattle.apex_host.specs.Told.{TellsPart, IsTold, usage_line, formatted_line, image_refused_line, mount_fault_line, format_fault_line}
 use Rattle.apex_host.specs.declared.command.Command.{Command}
 use Rattle.apex_host.specs.declared.command.Command.TheVariants.{Format, Run}
 use Rattle.apex_host.specs.declared.status.Status.{Status}
-use Rattle.apex_host.specs.declared.status.Status.TheVariants.{Done, Usage, ImageRefused, ReplyFault, OutOfMemory}
+use Rattle.apex_host.specs.declared.status.Status.TheVariants.{Done, Usage, ImageRefused, DeviceFault, ReplyFault, OutOfMemory}
 use Rattle.apex_host.specs.declared.stops.Stop.{Stop}
-use Rattle.apex_host.specs.declared.stops.Stop.TheVariants as stop
-use Rattle.apex_host.proofs.Cuts.{rose-before, rose-after, part-after, back-some}
-
--- ---- there is something to tell, unless memory ran out
-
--- an ending that is told
-abbrev pub IsTold : Ending → Type 0
-IsTold end = (end.line ≢ []) × (end.status ≢ OutOfMemory)
-
-pub stop-told : (s : Stop) → s ≢ stop.Memory → IsTold (ending_of s)
-stop-told (stop.Table e) not = (λ e. cc, λ e. cc)
-stop-told (stop.Script e) not = (λ e. cc, λ e. cc)
-stop-told (stop.Small wanted) not = (λ e. cc, λ e. cc)
-stop-told stop.TableSource not = (λ e. cc, λ e. cc)
-stop-told stop.ScriptSource not = (λ e. cc, λ e. cc)
-stop-told stop.Device not = (λ e. cc, λ e. cc)
-stop-told stop.Memory not = absurd (not refl)
-
-pub usage-told : IsTold (told_with Usage usage_line)
-usage-told = (λ e. cc, λ e. cc)
-
-pub formatted-told : (blocks : ℕ) → IsTold (told_with Done (formatted_line blocks))
-formatted-told blocks = (λ e. cc, λ e. cc)
+use Rattle.apex_host.proofs.Cuts.{rose-before, rose-after, few-later}
 
 -- ---- a line that is told at the end
 
-module _ {old : Seen} (t s : Option (List ℕ)) (f g : ℕ) (m e : Outside) where
-  -- it leaves the reason as it is
-  ends-later : {command : Option Command} {status : Status} {due : List ℕ} → Later m e → Ends old (seen t f s g m) command status due → Ends old (seen t f s g e) command status due
-  ends-later later usage = usage
-  ends-later later (table_fault c rose) = table_fault c rose
-  ends-later later (table_refused c error is) = table_refused c error is
-  ends-later later (too_small rows gave small) = too_small rows gave small
-  ends-later later (device_fault rows gave room rose) =
-      device_fault rows gave room (⊎_elim (λ r. inl (rose-before old.read_faults m.read_faults e.read_faults r later.read_faults)) (λ r. inr (rose-before old.write_faults m.write_faults e.write_faults r later.write_faults)) rose)
-  ends-later later (formatted rows gave room) = formatted rows gave room
-  ends-later later (script_fault rows gave rose) = script_fault rows gave rose
-  ends-later later (script_refused rows r gave is) = script_refused rows r gave is
-  ends-later later (ran rows lines gave read) = ran rows lines gave read
-  ends-later later (starved_in_line rows lines k gave read) = starved_in_line rows lines k gave read
-  ends-later later (starved c) = starved c
+module _ (m e : Outside) (later : Later m e) (n : ℕ) where
+  read-later : Rose n m.read_faults → Rose n e.read_faults
+  read-later rose = rose-before n m.read_faults e.read_faults rose later.read_faults
 
-  pub ends-told : {T : Type 0} {command : Option Command} {end : Ending} {said : List ℕ} {result : Status} → Owes T command old (seen t f s g m) end → said ≡ end.line → old.tell_faults ≤ m.tell_faults
-      → Later m e → (result ≡ end.status) ⊎ (result ≡ ReplyFault) → (T → result ≡ end.status → e.told ≡ m.told ++ said) → (T → IsToldPart said m.told e.told) → (result ≡ ReplyFault → Rose m.tell_faults e.tell_faults)
-      → (result ≡ ReplyFault → IsTold end) → EndsSo T command old (seen t f s g e) result
-  ends-told {T} {command} {end} {said} {result} owes same before later ends told part cause some = record {
-    status = end.status;
-    due = owes.front ++ end.line;
-    reason = ends-later later owes.reason;
-    told = ⊎_elim (λ is. inl (is, λ v. told v is ∙ ap (λ (x : List ℕ). m.told ++ x) same ∙ ap (λ (x : List ℕ). x ++ end.line) (owes.told v) ∙ append_assoc old.told owes.front end.line))
-        (λ fault. inr (
-          fault,
-          (some fault).1,
-          record {
-            something = back-some owes.front end.line (some fault).0;
-            rose = rose-after old.tell_faults m.tell_faults e.tell_faults before (cause fault);
-            part = λ v. part-after old.told m.told e.told owes.front end.line (owes.told v) (subst (λ (x : List ℕ). IsToldPart x m.told e.told) same (part v));
-          },
-        )) ends;
-    sources_first = owes.sources_first;
-  }
+  write-later : Rose n m.write_faults → Rose n e.write_faults
+  write-later rose = rose-before n m.write_faults e.write_faults rose later.write_faults
+
+module _ {V : Type 0} {old : Seen} (t s : Option (List ℕ)) (f g : ℕ) (m e : Outside) where
+  -- it leaves the reason as it is
+  module _ (later : Later m e) where
+    text-later : {rows : Rows} {lines : List Line} {text : List ℕ} → IsRunText V rows lines old (seen t f s g m) text → IsRunText V rows lines old (seen t f s g e) text
+    text-later is = record { failed = is.failed; few = few-later (length is.failed) old.read_faults m.read_faults e.read_faults is.few later.read_faults; of_image = is.of_image }
+
+    ends-later : {command : Option Command} {status : Status} {due : List ℕ} → Ends V old (seen t f s g m) command status due → Ends V old (seen t f s g e) command status due
+    ends-later usage = usage
+    ends-later (table_fault c rose) = table_fault c rose
+    ends-later (table_refused c error is) = table_refused c error is
+    ends-later (too_small_to_format rows gave small) = too_small_to_format rows gave small
+    ends-later (format_fault rows gave room rose) = format_fault rows gave room (⊎_elim (λ r. inl (read-later m e later old.read_faults r)) (λ r. inr (write-later m e later old.write_faults r)) rose)
+    ends-later (formatted rows gave room) = formatted rows gave room
+    ends-later (script_fault rows gave rose) = script_fault rows gave rose
+    ends-later (script_refused rows r gave is) = script_refused rows r gave is
+    ends-later (image_refused rows lines r gave read is) = image_refused rows lines r gave read is
+    ends-later (mount_fault rows lines gave read rose) = mount_fault rows lines gave read (read-later m e later old.read_faults rose)
+    ends-later (fault_in_line rows lines k line text gave read at is cause) =
+        fault_in_line rows lines k line text gave read at (text-later is) (⊎_elim (λ r. inl (write-later m e later old.write_faults r)) (λ r. inr (r.0, read-later m e later old.read_faults r.1)) cause)
+    ends-later (ran rows lines text gave read is) = ran rows lines text gave read (text-later is)
+    ends-later (starved c) = starved c
+
+  -- where memory ran out nothing is due
+  none-due : {c : Option Command} {due : List ℕ} → Ends V old (seen t f s g m) c OutOfMemory due → due ≡ []
+  none-due (starved c) = refl
+
+  pub ends-told : {T : Type 0} {command : Option Command} {end : Stop} {said : List ℕ} {result : Status} → Owes T V command old (seen t f s g m) end → said ≡ end.line → old.tell_faults ≤ m.tell_faults
+      → Later m e → IsTold T said end.status m e result → EndsSo T V command old (seen t f s g e) result
+  ends-told {T} {command} {end} {said} {result} owes same before later told =
+      let P : Status → Type 0 = λ x. Ends V old (seen t f s g m) command x end.line in
+      record {
+        status = end.status;
+        due = end.line;
+        reason = ends-later later owes.reason;
+        told = ⊎_elim (λ all. inl (all.0, λ v. all.1 v ∙ ap (λ (x : List ℕ). x ++ said) (owes.told v) ∙ ap (λ (x : List ℕ). old.told ++ x) same))
+            (λ part. inr (
+              part.0,
+              λ memory. part.1.something (same ∙ none-due (subst P memory owes.reason)),
+              record {
+                something = λ none. part.1.something (same ∙ none);
+                rose = rose-after old.tell_faults m.tell_faults e.tell_faults before part.1.rose;
+                part = λ v. let is = part.1.part v in (is.0, is.1, is.2 ∙ same, is.3 ∙ ap (λ (x : List ℕ). x ++ is.0) (owes.told v));
+              },
+            )) told;
+        sources_first = owes.sources_first;
+      }
 
 -- ---- why a command stops
 
-module _ {T : Type 0} (o : Outside) where
+module _ {T V : Type 0} (o : Outside) where
   -- words that are no command
-  pub owes-usage : {t s : Option (List ℕ)} {f g : ℕ} → Owes T None (seen t f s g o) (seen t f s g o) (told_with Usage usage_line)
-  owes-usage = record { front = []; reason = usage; told = λ v. sym (append-nil o.told); sources_first = (inl refl, inl refl) }
+  pub owes-usage : {t s : Option (List ℕ)} {f g : ℕ} → Owes T V None (seen t f s g o) (seen t f s g o) (told_with Usage usage_line)
+  owes-usage = record { reason = usage; told = λ v. refl; sources_first = (inl refl, inl refl) }
 
-  pub no-table : {t t' s : Option (List ℕ)} {f f' g : ℕ} {stop : Stop} (c : Command) → StopsTable t f f' stop → Owes T (Some c) (seen t f s g o) (seen t' f' s g o) (ending_of stop)
-  no-table c (StopsTable.refused error quiet is) = record { front = []; reason = table_refused c error is; told = λ v. sym (append-nil o.told); sources_first = (inl quiet, inl refl) }
-  no-table c (StopsTable.fault rose) = record { front = []; reason = table_fault c rose; told = λ v. sym (append-nil o.told); sources_first = (inr (refl, refl), inl refl) }
-  no-table c (StopsTable.starved quiet) = record { front = []; reason = starved c; told = λ v. sym (append-nil o.told); sources_first = (inl quiet, inl refl) }
+  pub no-table : {t t' s : Option (List ℕ)} {f f' g : ℕ} {stop : Stop} (c : Command) → StopsTable t f f' stop → Owes T V (Some c) (seen t f s g o) (seen t' f' s g o) stop
+  no-table c (StopsTable.refused error quiet is) = record { reason = table_refused c error is; told = λ v. refl; sources_first = (inl quiet, inl refl) }
+  no-table c (StopsTable.fault rose) = record { reason = table_fault c rose; told = λ v. refl; sources_first = (inr (refl, refl), inl refl) }
+  no-table c (StopsTable.starved quiet) = record { reason = starved c; told = λ v. refl; sources_first = (inl quiet, inl refl) }
 
-  pub no-script : {t t' s s' : Option (List ℕ)} {f f' g g' : ℕ} {stop : Stop} (rows : Rows) → GaveTable t t' rows → f' ≡ f → StopsScript rows s g g' stop → Owes T (Some Run) (seen t f s g o) (seen t' f' s' g' o) (ending_of stop)
-  no-script rows gave q (StopsScript.refused error quiet is) = record { front = []; reason = script_refused rows (refusal_of error) gave is; told = λ v. sym (append-nil o.told); sources_first = (inl q, inl quiet) }
-  no-script rows gave q (StopsScript.fault rose) = record { front = []; reason = script_fault rows gave rose; told = λ v. sym (append-nil o.told); sources_first = (inl q, inr (refl, refl)) }
-  no-script rows gave q (StopsScript.starved quiet) = record { front = []; reason = starved Run; told = λ v. sym (append-nil o.told); sources_first = (inl q, inl quiet) }
+  pub no-script : {t t' s s' : Option (List ℕ)} {f f' g g' : ℕ} {stop : Stop} (rows : Rows) → GaveTable t t' rows → f' ≡ f → StopsScript rows s g g' stop → Owes T V (Some Run) (seen t f s g o) (seen t' f' s' g' o) stop
+  no-script rows gave q (StopsScript.refused error quiet is) = record { reason = script_refused rows (refusal_of error) gave is; told = λ v. refl; sources_first = (inl q, inl quiet) }
+  no-script rows gave q (StopsScript.fault rose) = record { reason = script_fault rows gave rose; told = λ v. refl; sources_first = (inl q, inr (refl, refl)) }
+  no-script rows gave q (StopsScript.starved quiet) = record { reason = starved Run; told = λ v. refl; sources_first = (inl q, inl quiet) }
 
 -- ---- a device is large enough, or not
 
 has-room : (size wanted : ℕ) → (size < wanted → ⊥) → wanted ≤ size
 has-room size wanted fits = elim (cases_lt size wanted) [ inl small ↦ absurd (fits small) | inr large ↦ omega arith ]
 
-abbrev pub stop_of_format : FormatError → Stop
-stop_of_format (format.TooSmall wanted) = stop.Small wanted
-stop_of_format format.Device = stop.Device
-stop_of_format format.Memory = stop.Memory
-
 -- ---- after sources that counted no fault
 
-module _ {T : Type 0} {t t' s s' : Option (List ℕ)} {f f' g g' : ℕ} (o e : Outside) (quiet : f' ≡ f) (still : g' ≡ g) where
+module _ {T V : Type 0} {t t' s s' : Option (List ℕ)} {f f' g g' : ℕ} (o e : Outside) (quiet : f' ≡ f) (still : g' ≡ g) where
   -- with nothing told
-  pub owes-line : {c : Command} {end : Ending} → e.told ≡ o.told → Ends (seen t f s g o) (seen t' f' s' g' e) (Some c) end.status end.line → Owes T (Some c) (seen t f s g o) (seen t' f' s' g' e) end
-  owes-line same reason = record { front = []; reason = reason; told = λ v. same ∙ sym (append-nil o.told); sources_first = (inl quiet, inl still) }
+  pub owes-line : {c : Command} {end : Stop} → e.told ≡ o.told → Ends V (seen t f s g o) (seen t' f' s' g' e) (Some c) end.status end.line → Owes T V (Some c) (seen t f s g o) (seen t' f' s' g' e) end
+  owes-line same reason = record { reason = reason; told = λ v. same; sources_first = (inl quiet, inl still) }
 
   -- a format
   module _ (rows : Rows) (gave : GaveTable t t' rows) (same : e.told ≡ o.told) {result : Result (Unit {0}) FormatError} (small : o.size < image_bytes rows → result ≡ Err (format.TooSmall (image_bytes rows))) where
-    pub owes-formatted : (blocks : ℕ) (done : Unit {0}) → blocks ≡ layout_blocks rows → result ≡ Ok done → Owes T (Some Format) (seen t f s g o) (seen t' f' s' g' e) (told_with Done (formatted_line blocks))
+    pub owes-formatted : (blocks : ℕ) (done : Unit {0}) → blocks ≡ layout_blocks rows → result ≡ Ok done → Owes T V (Some Format) (seen t f s g o) (seen t' f' s' g' e) (told_with Done (formatted_line blocks))
     owes-formatted blocks done is ok =
         let fits : o.size < image_bytes rows → ⊥ = λ lt. let w : ◌≡◌ {A = Result (Unit {0}) FormatError} (Ok done) (Err (format.TooSmall (image_bytes rows))) = sym ok ∙ small lt in cc in
         owes-line {end = told_with Done (formatted_line blocks)} same
-        (subst (λ (n : ℕ). Ends (seen t f s g o) (seen t' f' s' g' e) (Some Format) Done (formatted_line n)) (sym is) (formatted rows gave (has-room o.size (image_bytes rows) fits)))
+        (subst (λ (n : ℕ). Ends V (seen t f s g o) (seen t' f' s' g' e) (Some Format) Done (formatted_line n)) (sym is) (formatted rows gave (has-room o.size (image_bytes rows) fits)))
 
-    unformatted : (U : Type 0) (x : FormatError) → result ≡ Err x → FailsFor (image_bytes rows) o e U x → Owes T (Some Format) (seen t f s g o) (seen t' f' s' g' e) (ending_of (stop_of_format x))
-    unformatted U (format.TooSmall wanted) is why =
-        owes-line {end = ending_of (stop.Small wanted)} same
-        (subst (λ (n : ℕ). Ends (seen t f s g o) (seen t' f' s' g' e) (Some Format) ImageRefused (too_small_line n)) (sym why.1) (too_small rows gave why.0))
-    unformatted U format.Device is why =
-        let fits : o.size < image_bytes rows → ⊥ = λ lt. let w : ◌≡◌ {A = Result (Unit {0}) FormatError} (Err format.Device) (Err (format.TooSmall (image_bytes rows))) = sym is ∙ small lt in cc in
-        owes-line {end = ending_of stop.Device} same (device_fault rows gave (has-room o.size (image_bytes rows) fits) why)
-    unformatted U format.Memory is why = owes-line {end = ending_of stop.Memory} same (starved Format)
+    pub owes-small : (wanted : ℕ) (stop : Stop) → stop ≡ told_with ImageRefused (image_refused_line (too_small wanted)) → o.size < image_bytes rows → wanted ≡ image_bytes rows → Owes T V (Some Format) (seen t f s g o) (seen t' f' s' g' e) stop
+    owes-small wanted stop is less needed =
+        let P : Stop → Type 0 = λ x. Owes T V (Some Format) (seen t f s g o) (seen t' f' s' g' e) x in
+        subst P (sym (is ∙ ap (λ (n : ℕ). told_with ImageRefused (image_refused_line (too_small n))) needed)) (owes-line {end = told_with ImageRefused (image_refused_line (too_small (image_bytes rows)))} same (too_small_to_format rows gave less))
 
-    pub owes-unformatted : (U : Type 0) (x y : FormatError) → x ≡ y → result ≡ Err x → FailsFor (image_bytes rows) o e U x → Owes T (Some Format) (seen t f s g o) (seen t' f' s' g' e) (ending_of (stop_of_format y))
-    owes-unformatted U x y same_error is why =
-        let P : FormatError → Type 0 = λ z. Owes T (Some Format) (seen t f s g o) (seen t' f' s' g' e) (ending_of (stop_of_format z)) in
-        subst P same_error (unformatted U x is why)
+    pub owes-fault : (stop : Stop) → stop ≡ told_with DeviceFault format_fault_line → result ≡ Err format.Device → Rose o.read_faults e.read_faults ⊎ Rose o.write_faults e.write_faults → Owes T V (Some Format) (seen t f s g o) (seen t' f' s' g' e) stop
+    owes-fault stop is err rose =
+        let P : Stop → Type 0 = λ x. Owes T V (Some Format) (seen t f s g o) (seen t' f' s' g' e) x in
+        let fits : o.size < image_bytes rows → ⊥ = λ lt. let w : ◌≡◌ {A = Result (Unit {0}) FormatError} (Err format.Device) (Err (format.TooSmall (image_bytes rows))) = sym err ∙ small lt in cc in
+        subst P (sym is) (owes-line {end = told_with DeviceFault format_fault_line} same (format_fault rows gave (has-room o.size (image_bytes rows) fits) rose))
+
+  -- memory ran out
+  pub owes-memory : (c : Command) (stop : Stop) → stop ≡ told_with OutOfMemory [] → e.told ≡ o.told → Owes T V (Some c) (seen t f s g o) (seen t' f' s' g' e) stop
+  owes-memory c stop is same =
+      let P : Stop → Type 0 = λ x. Owes T V (Some c) (seen t f s g o) (seen t' f' s' g' e) x in
+      subst P (sym is) (owes-line {end = told_with OutOfMemory []} same (starved c))
 
   -- a run
   module _ (rows : Rows) (lines : List Line) (gave : GaveTable t t' rows) (read : GaveScript s s' rows lines) where
-    -- all lines were told, or telling one failed, or memory for one ran out
-    pub ends-run : (T → e.told ≡ o.told ++ fresh_text rows lines) → EndsSo T (Some Run) (seen t f s g o) (seen t' f' s' g' e) Done
-    ends-run told = record { status = Done; due = fresh_text rows lines; reason = ran rows lines gave read; told = inl (refl, told); sources_first = (inl quiet, inl still) }
+    pub no-image : {stop : Stop} → e.told ≡ o.told → StopsMount V rows o e stop → Owes T V (Some Run) (seen t f s g o) (seen t' f' s' g' e) stop
+    no-image same (StopsMount.refused r is) = owes-line {end = told_with ImageRefused (image_refused_line r)} same (image_refused rows lines r gave read is)
+    no-image same (StopsMount.fault rose) = owes-line {end = told_with DeviceFault mount_fault_line} same (mount_fault rows lines gave read rose)
+    no-image same StopsMount.starved = owes-line {end = told_with OutOfMemory []} same (starved Run)
 
-    pub ends-cut : TellsPart T (fresh_text rows lines) o e → EndsSo T (Some Run) (seen t f s g o) (seen t' f' s' g' e) ReplyFault
-    ends-cut part = record { status = Done; due = fresh_text rows lines; reason = ran rows lines gave read; told = inr (refl, (λ e. cc), part); sources_first = (inl quiet, inl still) }
+    -- all lines were told
+    pub ends-run : {text : List ℕ} → IsRunText V rows lines (seen t f s g o) (seen t' f' s' g' e) text → (T → e.told ≡ o.told ++ text) → EndsSo T V (Some Run) (seen t f s g o) (seen t' f' s' g' e) Done
+    ends-run {text} is told = record { status = Done; due = text; reason = ran rows lines text gave read is; told = inl (refl, told); sources_first = (inl quiet, inl still) }
 
-    pub owes-starved : (k : ℕ) → (T → e.told ≡ o.told ++ fresh_text rows (take k lines)) → Owes T (Some Run) (seen t f s g o) (seen t' f' s' g' e) (ending_of stop.Memory)
-    owes-starved k told =
-        let text = fresh_text rows (take k lines) in
-        let P : List ℕ → Type 0 = λ x. Ends (seen t f s g o) (seen t' f' s' g' e) (Some Run) OutOfMemory x in
-        record { front = text; reason = subst P (sym (append-nil text)) (starved_in_line rows lines k gave read); told = told; sources_first = (inl quiet, inl still) }
+    -- telling one failed
+    pub ends-cut : {text : List ℕ} → IsRunText V rows lines (seen t f s g o) (seen t' f' s' g' e) text → TellsPart T text o e → EndsSo T V (Some Run) (seen t f s g o) (seen t' f' s' g' e) ReplyFault
+    ends-cut {text} is part = record { status = Done; due = text; reason = ran rows lines text gave read is; told = inr (refl, (λ e. cc), part); sources_first = (inl quiet, inl still) }
+
+    -- the device failed in one, and that was told, or telling it failed
+    module _ (k : ℕ) (line : Line) (at : slice_get lines k ≡ Some line) {text : List ℕ} (is : IsRunText V rows (take k lines) (seen t f s g o) (seen t' f' s' g' e) text) (cause : LineFailed line (seen t f s g o) (seen t' f' s' g' e)) where
+      pub ends-fault : (T → e.told ≡ o.told ++ (text ++ fault_line line.number)) → EndsSo T V (Some Run) (seen t f s g o) (seen t' f' s' g' e) DeviceFault
+      ends-fault told = record { status = DeviceFault; due = text ++ fault_line line.number; reason = fault_in_line rows lines k line text gave read at is cause; told = inl (refl, told); sources_first = (inl quiet, inl still) }
+
+      pub ends-fault-cut : TellsPart T (text ++ fault_line line.number) o e → EndsSo T V (Some Run) (seen t f s g o) (seen t' f' s' g' e) ReplyFault
+      ends-fault-cut part = record { status = DeviceFault; due = text ++ fault_line line.number; reason = fault_in_line rows lines k line text gave read at is cause; told = inr (refl, (λ e. cc), part); sources_first = (inl quiet, inl still) }

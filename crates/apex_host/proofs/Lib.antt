@@ -1,11 +1,9 @@
 pub mod Bounds
+pub mod Carried
 pub mod Cuts
 pub mod Disks
 pub mod EndLaws
 pub mod Endings
 pub mod Offers
-pub mod Runs
 pub mod SourceReads
-pub mod Starting
-pub mod Tellable
 pub mod StopLaws

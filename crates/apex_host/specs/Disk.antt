@@ -1,12 +1,21 @@
 -- What a command does to the disk.
-use Rattle.std.specs.Prelude.{◌≡◌, ◌⊎◌, ◌≤◌, ℕ, List, Option, Some}
+use Rattle.std.specs.Prelude.{◌≡◌, ◌≢◌, ◌⊎◌, ◌++◌, ◌≤◌, ℕ, List, Option, Some, Ok}
+use Rattle.std.specs.Option.{ForSome}
 use Rattle.apex_types.specs.Rows.{Rows}
+use Rattle.apex_types.specs.declared.calls.Line.{Line}
+use Rattle.apex_model.specs.Durable.{Durable, start, IsCut}
+use Rattle.apex_model.specs.Image.{state_of}
+use Rattle.apex_model.specs.Run.{world_after_all}
 use Rattle.rig_core.specs.Leaves.{LeavesPairs}
 use Rattle.rig_core.specs.Outside.{Outside, Now, AllNow, Later}
 use Rattle.recover_scan.specs.Format.{OldOrFormatted, KeepsRest, IsFormatted, IsWholeEmpty}
+use Rattle.script_model.specs.Script.{script_of}
+use Rattle.image_layout.specs.Ready.{Stores}
+use Rattle.script_run.specs.Pairs.{IsPair}
 use Rattle.apex_host.specs.Endings.{IsTableOf}
+use Rattle.apex_host.specs.Told.{run_text}
 use Rattle.apex_host.specs.declared.command.Command.{Command}
-use Rattle.apex_host.specs.declared.command.Command.TheVariants.{Format}
+use Rattle.apex_host.specs.declared.command.Command.TheVariants.{Format, Run}
 use Rattle.apex_host.specs.declared.status.Status.{Status}
 use Rattle.apex_host.specs.declared.status.Status.TheVariants.{Done, DeviceFault, ReplyFault}
 
@@ -64,18 +73,71 @@ pub record MakesEmpty (tells_view : Type 0) (left : Option (List ℕ)) (old new 
   pub begins : BeginsFormat left old new
   pub holds : HoldsEmpty tells_view begins.rows old new
 
+-- ---- a run
+
+-- Where the rig tells its bytes and its text, each image that a cut leaves stands for a state that
+-- the text told until then allows, in a run of these lines from the state that the image stood for.
+abbrev pub LeavesRun : Type 0 → Type 0 → Rows → List Line → Outside → Outside → Type 0
+LeavesRun tells_text tells_view rows lines old new = tells_text → tells_view
+    → (stored : Durable) → state_of rows old.view ≡ Ok stored
+    → LeavesPairs (IsPair rows (start rows stored) lines old.told) old new
+
+-- A run of the lines that the sources spell has begun.
+pub record BeginsRun (tells_text tells_view : Type 0) (table script : Option (List ℕ))
+    (old new : Outside) : Type 0 where
+  pub rows : Rows
+  pub lines : List Line
+  pub spelled : IsTableOf table rows
+  pub read : ForSome script (λ bytes. script_of rows bytes ≡ Ok lines)
+  pub pairs : LeavesRun tells_text tells_view rows lines old new
+
+-- this image stands for what a cut leaves at the end of a run in which these reads failed
+abbrev pub HoldsWorld : Rows → List ℕ → Durable → List Line → List ℕ → Type 0
+HoldsWorld rows failed stored lines image =
+    Stores rows (IsCut (world_after_all rows failed (start rows stored) lines)) image
+
+-- So is what a cut leaves now, and what reads give, and that run was told.
+pub record HoldsRun (tells_text : Type 0) (rows : Rows) (lines : List Line) (stored : Durable)
+    (old new : Outside) : Type 0 where
+  pub failed : List ℕ
+  pub told : tells_text → new.told ≡ old.told ++ run_text rows failed (start rows stored) lines
+  pub images : AllNow (HoldsWorld rows failed stored lines) new
+  pub view : HoldsWorld rows failed stored lines new.view
+
+-- It has come to its end.
+pub record CompletesRun (tells_text tells_view : Type 0) (table script : Option (List ℕ))
+    (old new : Outside) : Type 0 where
+  pub begins : BeginsRun tells_text tells_view table script old new
+  pub holds : tells_view → (stored : Durable) → state_of begins.rows old.view ≡ Ok stored
+      → HoldsRun tells_text begins.rows begins.lines stored old new
+
+-- at every moment a cut leaves the image as it was, or one that stands for a state which the text
+-- told until then allows
+abbrev pub RunsSafely : Rows → List Line → Durable → Outside → Outside → Type 0
+RunsSafely rows lines stored old new = LeavesPairs
+    (λ image told. (image ≡ old.view) ⊎ IsPair rows (start rows stored) lines old.told image told)
+    old new
+
 -- ---- any command
 
 -- What a command does to the disk, by how it ends.
-pub data LeavesDisk (tells_view : Type 0) (left : Option (List ℕ)) (old new : Outside)
-    : Option Command → Status → Type 0 where
+pub data LeavesDisk (tells_text tells_view : Type 0) (table script : Option (List ℕ))
+    (old new : Outside) : Option Command → Status → Type 0 where
   -- A format that comes to its end made the disk the empty image.
-  formatted : MakesEmpty tells_view left old new
-      → LeavesDisk tells_view left old new (Some Format) Done
+  formatted : MakesEmpty tells_view table old new
+      → LeavesDisk tells_text tells_view table script old new (Some Format) Done
   -- One that met a fault of the device or of telling has begun.
   format_failed : (status : Status) → (status ≡ DeviceFault) ⊎ (status ≡ ReplyFault)
-      → BeginsFormat left old new → LeavesDisk tells_view left old new (Some Format) status
+      → BeginsFormat table old new
+      → LeavesDisk tells_text tells_view table script old new (Some Format) status
+  -- A run that comes to its end carried out its lines.
+  ran : CompletesRun tells_text tells_view table script old new
+      → LeavesDisk tells_text tells_view table script old new (Some Run) Done
+  -- One that met such a fault in a line has begun.
+  run_failed : (status : Status) → (status ≡ DeviceFault) ⊎ (status ≡ ReplyFault)
+      → BeginsRun tells_text tells_view table script old new
+      → LeavesDisk tells_text tells_view table script old new (Some Run) status
   -- All else leaves the disk untouched.
-  untouched : (command : Option Command) (status : Status)
-      → (command ≡ Some Format → status ≡ Done → ⊥) → IsUntouched tells_view old new
-      → LeavesDisk tells_view left old new command status
+  untouched : (command : Option Command) (status : Status) → status ≢ Done
+      → IsUntouched tells_view old new
+      → LeavesDisk tells_text tells_view table script old new command status

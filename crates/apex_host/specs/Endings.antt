@@ -1,17 +1,22 @@
 -- How each command ends.
-use Rattle.std.specs.Prelude.{◌≡◌, ◌≢◌, ◌⊎◌, ◌++◌, ◌*◌, ◌<◌, ◌≤◌, ℕ, List, [], take, Option, Some, None, Ok, Err}
+use Rattle.std.specs.Prelude.{◌≡◌, ◌≢◌, ◌⊎◌, ◌++◌, ◌*◌, ◌<◌, ◌≤◌, ℕ, List, [], length, take, slice_get, Option, Some, None, Ok, Err}
 use Rattle.std.specs.Option.{ForSome}
 use Rattle.apex_types.specs.Rows.{Rows}
 use Rattle.apex_types.specs.declared.calls.Line.{Line}
 use Rattle.apex_model.specs.Accepted.{IsAccepted}
+use Rattle.apex_model.specs.Durable.{Durable, start}
+use Rattle.apex_model.specs.Image.{Refusal as ImageRefusal, too_small, state_of}
 use Rattle.apex_model.specs.Layout.{layout_blocks}
+use Rattle.apex_model.specs.Run.{fault_line}
 use Rattle.rig_core.specs.Causes.{Rose}
 use Rattle.rig_core.specs.Outside.{Outside}
 use Rattle.table_model.specs.Table.{table_of}
 use Rattle.table_model.specs.declared.errors.TableError.{TableError}
 use Rattle.script_model.specs.Script.{Refusal, script_of}
 use Rattle.script_model.specs.Refusals.{refusal_line}
-use Rattle.apex_host.specs.Told.{IsCutShort, fresh_text, formatted_line, usage_line, table_refused_line, table_fault_line, script_fault_line, too_small_line, device_fault_line}
+use Rattle.module_session.specs.Sessions.{IsTick}
+use Rattle.script_run.specs.Reached.{RoseBy}
+use Rattle.apex_host.specs.Told.{IsCutShort, run_text, formatted_line, usage_line, table_refused_line, table_fault_line, script_fault_line, image_refused_line, mount_fault_line, format_fault_line}
 use Rattle.apex_host.specs.declared.command.Command.{Command}
 use Rattle.apex_host.specs.declared.command.Command.TheVariants.{Format, Run}
 use Rattle.apex_host.specs.declared.status.Status.{Status}
@@ -20,11 +25,12 @@ use Rattle.apex_host.specs.declared.status.Status.TheVariants.{Done, Usage, Tabl
 -- ---- what is seen around a command
 
 -- At one moment: the bytes left in the two sources where they tell them, the device's size in
--- bytes, the text told, and the counts of faults.
+-- bytes and the bytes that reads of it give, the text told, and the counts of faults.
 pub record Seen : Type 0 where
   pub table : Option (List ℕ)
   pub script : Option (List ℕ)
   pub size : ℕ
+  pub view : List ℕ
   pub told : List ℕ
   pub table_faults : ℕ
   pub script_faults : ℕ
@@ -38,6 +44,7 @@ seen table table_faults script script_faults o = record {
   table = table;
   script = script;
   size = o.size;
+  view = o.view;
   told = o.told;
   table_faults = table_faults;
   script_faults = script_faults;
@@ -92,43 +99,79 @@ abbrev pub DeviceFailed : Seen → Seen → Type 0
 DeviceFailed old now =
     Rose old.read_faults now.read_faults ⊎ Rose old.write_faults now.write_faults
 
+-- ---- a run from an image
+
+-- The image stands for no state of this table, for this reason. That it is too small is so for
+-- every device.
+pub record RefusesImage (tells_view : Type 0) (rows : Rows) (size : ℕ) (view : List ℕ)
+    (r : ImageRefusal) : Type 0 where
+  pub reason : tells_view → state_of rows view ≡ Err r
+  pub small : (wanted : ℕ) → r ≡ too_small wanted
+      → (size < image_bytes rows) × (wanted ≡ image_bytes rows)
+
+-- This text is the replies to some lines, from the state that the image stands for. In some lines a
+-- read failed, and so often at least did reads of the device.
+pub record IsRunText (tells_view : Type 0) (rows : Rows) (lines : List Line) (old now : Seen)
+    (text : List ℕ) : Type 0 where
+  pub failed : List ℕ
+  pub few : RoseBy (length failed) old.read_faults now.read_faults
+  pub of_image : tells_view → (stored : Durable) × (state_of rows old.view ≡ Ok stored)
+      × (text ≡ run_text rows failed (start rows stored) lines)
+
+-- The device failed in a line: in a write or a sync, or in a read of a tick.
+abbrev pub LineFailed : Line → Seen → Seen → Type 0
+LineFailed line old now = Rose old.write_faults now.write_faults
+    ⊎ (IsTick line.deed × Rose old.read_faults now.read_faults)
+
 -- ---- why a command ends
 
 -- The reasons in the order in which they count, each with the command, the status and the text that
 -- is due. A further command adds its reasons.
-pub data Ends (old now : Seen) : Option Command → Status → List ℕ → Type 0 where
+pub data Ends (tells_view : Type 0) (old now : Seen) : Option Command → Status → List ℕ → Type 0 where
   -- The words are no command.
-  usage : Ends old now None Usage usage_line
+  usage : Ends tells_view old now None Usage usage_line
   -- Reading the table's source failed.
   table_fault : (c : Command) → Rose old.table_faults now.table_faults
-      → Ends old now (Some c) SourceFault table_fault_line
+      → Ends tells_view old now (Some c) SourceFault table_fault_line
   -- What the source gave is no table.
   table_refused : (c : Command) (e : TableError) → IsNoTable old.table e
-      → Ends old now (Some c) TableRefused (table_refused_line e)
+      → Ends tells_view old now (Some c) TableRefused (table_refused_line e)
   -- A format found the device smaller than the table's image.
-  too_small : (rows : Rows) → HasTable old now rows → old.size < image_bytes rows
-      → Ends old now (Some Format) ImageRefused (too_small_line (image_bytes rows))
+  too_small_to_format : (rows : Rows) → HasTable old now rows → old.size < image_bytes rows
+      → Ends tells_view old now (Some Format) ImageRefused
+      (image_refused_line (too_small (image_bytes rows)))
   -- A format met a failed call of the device.
-  device_fault : (rows : Rows) → HasTable old now rows → image_bytes rows ≤ old.size
-      → DeviceFailed old now → Ends old now (Some Format) DeviceFault device_fault_line
+  format_fault : (rows : Rows) → HasTable old now rows → image_bytes rows ≤ old.size
+      → DeviceFailed old now → Ends tells_view old now (Some Format) DeviceFault format_fault_line
   -- A format made the device the empty image of the table.
   formatted : (rows : Rows) → HasTable old now rows → image_bytes rows ≤ old.size
-      → Ends old now (Some Format) Done (formatted_line (layout_blocks rows))
+      → Ends tells_view old now (Some Format) Done (formatted_line (layout_blocks rows))
   -- A run had its table, and reading the script's source failed.
   script_fault : (rows : Rows) → HasTable old now rows → Rose old.script_faults now.script_faults
-      → Ends old now (Some Run) SourceFault script_fault_line
+      → Ends tells_view old now (Some Run) SourceFault script_fault_line
   -- What that source gave is no script for the table.
   script_refused : (rows : Rows) (r : Refusal) → HasTable old now rows
-      → IsNoScript rows old.script r → Ends old now (Some Run) ScriptRefused (refusal_line r)
-  -- A run carried out its script, from the state of a module with nothing stored.
-  ran : (rows : Rows) (lines : List Line) → HasTable old now rows → HasScript old now rows lines
-      → Ends old now (Some Run) Done (fresh_text rows lines)
-  -- Memory ran out at a line of the script, after the first k of them.
-  starved_in_line : (rows : Rows) (lines : List Line) (k : ℕ) → HasTable old now rows
-      → HasScript old now rows lines
-      → Ends old now (Some Run) OutOfMemory (fresh_text rows (take k lines))
-  -- Memory ran out before there was anything to tell, at any step of a command.
-  starved : (c : Command) → Ends old now (Some c) OutOfMemory []
+      → IsNoScript rows old.script r
+      → Ends tells_view old now (Some Run) ScriptRefused (refusal_line r)
+  -- A run had its script too, and the image stands for no state of the table.
+  image_refused : (rows : Rows) (lines : List Line) (r : ImageRefusal) → HasTable old now rows
+      → HasScript old now rows lines → RefusesImage tells_view rows old.size old.view r
+      → Ends tells_view old now (Some Run) ImageRefused (image_refused_line r)
+  -- A read of the device failed when a run opened the image.
+  mount_fault : (rows : Rows) (lines : List Line) → HasTable old now rows
+      → HasScript old now rows lines → Rose old.read_faults now.read_faults
+      → Ends tells_view old now (Some Run) DeviceFault mount_fault_line
+  -- The device failed in a line of the script, after the k lines before it.
+  fault_in_line : (rows : Rows) (lines : List Line) (k : ℕ) (line : Line) (text : List ℕ)
+      → HasTable old now rows → HasScript old now rows lines → slice_get lines k ≡ Some line
+      → IsRunText tells_view rows (take k lines) old now text → LineFailed line old now
+      → Ends tells_view old now (Some Run) DeviceFault (text ++ fault_line line.number)
+  -- A run carried out its script.
+  ran : (rows : Rows) (lines : List Line) (text : List ℕ) → HasTable old now rows
+      → HasScript old now rows lines → IsRunText tells_view rows lines old now text
+      → Ends tells_view old now (Some Run) Done text
+  -- Memory ran out, before there was anything to tell.
+  starved : (c : Command) → Ends tells_view old now (Some c) OutOfMemory []
 
 -- ---- how a command ends
 
@@ -156,11 +199,11 @@ SourcesFirst old now status due =
 
 -- The command ends for a reason, and what is due then is told, or a part of it. A fault of a source
 -- comes before all that was read of it.
-pub record EndsSo (tells_text : Type 0) (command : Option Command) (old now : Seen)
+pub record EndsSo (tells_text tells_view : Type 0) (command : Option Command) (old now : Seen)
     (result : Status) : Type 0 where
   pub status : Status
   pub due : List ℕ
-  pub reason : Ends old now command status due
+  pub reason : Ends tells_view old now command status due
   pub told : ToldAll tells_text old now status due result
       ⊎ ToldPart tells_text old now status due result
   pub sources_first : SourcesFirst old now status due

@@ -1,12 +1,14 @@
 -- What follows from how a command ends.
-use Rattle.std.specs.Prelude.{◌≡◌, ◌⊎◌, ◌++◌, ◌<◌, ◌≤◌, ℕ, List, Option, Some, None, Result}
+use Rattle.std.specs.Prelude.{◌≡◌, ◌⊎◌, ◌++◌, ◌<◌, ◌≤◌, ℕ, List, Option, Some, None, Result, Ok}
 use Rattle.apex_types.specs.Rows.{Rows}
 use Rattle.apex_types.specs.declared.calls.Line.{Line}
+use Rattle.apex_model.specs.Durable.{Durable}
+use Rattle.apex_model.specs.Image.{Refusal as ImageRefusal, state_of}
 use Rattle.rig_core.specs.Causes.{Rose}
 use Rattle.table_model.specs.Table.{table_of}
 use Rattle.table_model.specs.declared.errors.TableError.{TableError}
 use Rattle.script_model.specs.Script.{Refusal, script_of}
-use Rattle.apex_host.specs.Endings.{Seen, IsNoTable, IsNoScript, HasTable, HasScript, DeviceFailed, image_bytes}
+use Rattle.apex_host.specs.Endings.{Seen, IsNoTable, IsNoScript, HasTable, HasScript, RefusesImage, DeviceFailed, image_bytes}
 use Rattle.apex_host.specs.declared.command.Command.{Command}
 use Rattle.apex_host.specs.declared.command.Command.TheVariants.{Format, Run}
 use Rattle.apex_host.specs.declared.status.Status.{Status}
@@ -14,26 +16,39 @@ use Rattle.apex_host.specs.declared.status.Status.TheVariants.{Done, Usage, Tabl
 
 -- ---- each status only for its cause
 
+-- a run had this script for its table, and the image stands for a state
+abbrev pub HasState : Type 0 → Seen → Seen → Rows → Type 0
+HasState tells_view old now rows =
+    ((lines : List Line) × HasScript old now rows lines)
+    × (tells_view → (stored : Durable) × (state_of rows old.view ≡ Ok stored))
+
+-- or it stands for none
+abbrev pub HasNoImage : Type 0 → Seen → Seen → Rows → Type 0
+HasNoImage tells_view old now rows =
+    ((lines : List Line) × HasScript old now rows lines)
+    × ((r : ImageRefusal) × RefusesImage tells_view rows old.size old.view r)
+
 -- what is so where a command ends with a status
-abbrev pub Means : Option Command → Seen → Seen → Status → Type 0
-Means command old now Done =
+abbrev pub Means : Type 0 → Option Command → Seen → Seen → Status → Type 0
+Means tells_view command old now Done =
     (rows : Rows) × HasTable old now rows
     × (((command ≡ Some Format) × (image_bytes rows ≤ old.size))
-    ⊎ ((command ≡ Some Run) × ((lines : List Line) × HasScript old now rows lines)))
-Means command old now Usage = command ≡ None
-Means command old now TableRefused = (e : TableError) × IsNoTable old.table e
-Means command old now ScriptRefused =
+    ⊎ ((command ≡ Some Run) × HasState tells_view old now rows))
+Means tells_view command old now Usage = command ≡ None
+Means tells_view command old now TableRefused = (e : TableError) × IsNoTable old.table e
+Means tells_view command old now ScriptRefused =
     (command ≡ Some Run)
     × ((rows : Rows) × (r : Refusal) × HasTable old now rows × IsNoScript rows old.script r)
-Means command old now ImageRefused =
-    (command ≡ Some Format)
-    × ((rows : Rows) × HasTable old now rows × (old.size < image_bytes rows))
-Means command old now CommandRefused = ⊥
-Means command old now SourceFault =
+Means tells_view command old now ImageRefused =
+    (rows : Rows) × HasTable old now rows
+    × (((command ≡ Some Format) × (old.size < image_bytes rows))
+    ⊎ ((command ≡ Some Run) × HasNoImage tells_view old now rows))
+Means tells_view command old now CommandRefused = ⊥
+Means tells_view command old now SourceFault =
     Rose old.table_faults now.table_faults ⊎ Rose old.script_faults now.script_faults
-Means command old now DeviceFault = (command ≡ Some Format) × DeviceFailed old now
-Means command old now ReplyFault = Rose old.tell_faults now.tell_faults
-Means command old now OutOfMemory = (c : Command) × (command ≡ Some c)
+Means tells_view command old now DeviceFault = (c : Command) × (command ≡ Some c) × DeviceFailed old now
+Means tells_view command old now ReplyFault = Rose old.tell_faults now.tell_faults
+Means tells_view command old now OutOfMemory = (c : Command) × (command ≡ Some c)
 
 -- ---- what comes where nothing hinders it
 

@@ -1,30 +1,20 @@
 -- What the host tells.
-use Rattle.std.specs.Prelude.{◌≢◌, ℕ, List, [], ◌∷◌, ◌++◌, codes, decimal}
+use Rattle.std.specs.Prelude.{◌≡◌, ◌≢◌, ◌⊎◌, ℕ, List, [], ◌∷◌, ◌++◌, Option, Some, None, codes, decimal}
 use Rattle.apex_types.specs.Rows.{Rows}
 use Rattle.apex_types.specs.declared.calls.Line.{Line}
-use Rattle.apex_model.specs.Durable.{start, empty_durable}
-use Rattle.apex_model.specs.Run.{told_for, replies_to, text_of, line_of}
+use Rattle.apex_model.specs.Image.{Refusal, too_small, not_formatted, other_table, bad_tree, bad_logbook}
+use Rattle.apex_model.specs.Run.{replies_to, text_of, line_of}
 use Rattle.apex_model.specs.World.{World}
 use Rattle.rig_core.specs.Causes.{Rose}
 use Rattle.rig_core.specs.Outside.{Outside, IsToldPart}
 use Rattle.table_model.specs.Errors.{error_number, error_name}
 use Rattle.table_model.specs.declared.errors.TableError.{TableError}
+use Rattle.apex_host.specs.declared.status.Status.{Status}
+use Rattle.apex_host.specs.declared.status.Status.TheVariants.{ReplyFault}
 
--- the world in which a module of this table starts with nothing stored
-abbrev pub fresh_world : Rows → World
-fresh_world table = start table (empty_durable table)
-
--- the reply line of a line of a script that is carried out in a world, or nothing for a tick
-abbrev pub line_text : Rows → World → Line → List ℕ
-line_text table w line = text_of (told_for table [] w line.number line.deed)
-
--- the reply lines of a script
-abbrev pub run_text : Rows → World → List Line → List ℕ
-run_text table w lines = text_of (replies_to table [] w lines)
-
--- those of a script that a module with nothing stored carries out
-abbrev pub fresh_text : Rows → List Line → List ℕ
-fresh_text table lines = run_text table (fresh_world table) lines
+-- the reply lines of a script that is carried out in a world, where the reads of some lines failed
+abbrev pub run_text : Rows → List ℕ → World → List Line → List ℕ
+run_text table failed w lines = text_of (replies_to table failed w lines)
 
 -- the line that tells that an image of so many blocks was made
 abbrev pub formatted_line : ℕ → List ℕ
@@ -49,14 +39,31 @@ table_fault_line = codes "source fault table" ++ 10 ∷ []
 abbrev pub script_fault_line : List ℕ
 script_fault_line = codes "source fault script" ++ 10 ∷ []
 
--- a device is too small, since so many bytes are wanted
-abbrev pub too_small_line : ℕ → List ℕ
-too_small_line wanted =
-    line_of (codes "image" ∷ codes "refused" ∷ decimal 1 ∷ codes "TooSmall" ∷ decimal wanted ∷ [])
+-- the word of a value, if there is one
+abbrev pub value_words : Option ℕ → List (List ℕ)
+value_words None = []
+value_words (Some n) = decimal n ∷ []
 
--- a call of the device failed
-abbrev pub device_fault_line : List ℕ
-device_fault_line = codes "device fault format" ++ 10 ∷ []
+-- the number, the name and the value with which an image is refused
+abbrev pub image_words : Refusal → List (List ℕ)
+image_words (too_small wanted) = decimal 1 ∷ codes "TooSmall" ∷ value_words (Some wanted)
+image_words not_formatted = decimal 2 ∷ codes "NotFormatted" ∷ value_words None
+image_words (other_table place) = decimal 3 ∷ codes "OtherTable" ∷ value_words (Some place)
+image_words (bad_tree tree) = decimal 4 ∷ codes "BadTree" ∷ value_words (Some tree)
+image_words (bad_logbook logbook) = decimal 5 ∷ codes "BadLogbook" ∷ value_words (Some logbook)
+
+-- the image is refused, for a number of bytes that is wanted, a place at which the table's bytes
+-- differ, or the number of a tree or a logbook that is bad
+abbrev pub image_refused_line : Refusal → List ℕ
+image_refused_line refusal = line_of (codes "image" ∷ codes "refused" ∷ image_words refusal)
+
+-- a read of the device failed when the image was opened
+abbrev pub mount_fault_line : List ℕ
+mount_fault_line = codes "device fault mount" ++ 10 ∷ []
+
+-- a call of the device failed when it was formatted
+abbrev pub format_fault_line : List ℕ
+format_fault_line = codes "device fault format" ++ 10 ∷ []
 
 -- ---- telling that fails
 
@@ -72,3 +79,9 @@ pub record IsCutShort (tells_text : Type 0) (text old now : List ℕ) (faults fa
 abbrev pub TellsPart : Type 0 → List ℕ → Outside → Outside → Type 0
 TellsPart tells_text text old new =
     IsCutShort tells_text text old.told new.told old.tell_faults new.tell_faults
+
+-- The line is told and the result is the status, or telling it failed after a part of it.
+abbrev pub IsTold : Type 0 → List ℕ → Status → Outside → Outside → Status → Type 0
+IsTold tells_text line status old new result =
+    ((result ≡ status) × (tells_text → new.told ≡ old.told ++ line))
+    ⊎ ((result ≡ ReplyFault) × TellsPart tells_text line old new)

@@ -3,12 +3,12 @@ ghost use Rattle.std.specs.Prelude.{◌≡◌, ◌≤◌, [], Some, Ok, IfOk, If
 ghost use Rattle.std.specs.List.{AllByRecursion};
 ghost use Rattle.apex_model.specs.Accepted.{IsAccepted};
 ghost use Rattle.apex_model.specs.Lines.{IsLineOf};
-ghost use Rattle.apex_host.specs.Sessions.{IsOffered};
+ghost use Rattle.module_session.specs.Sessions.{IsOffered};
 ghost use Rattle.apex_host.specs.Endings.{GaveTable, GaveScript};
 ghost use Rattle.apex_host.specs.Stops.{StopsTable, StopsScript};
 
 use crate::reading::{ReadStop, read_source};
-use crate::stops::{Stop, script_stop, table_stop};
+use crate::stops::Stop;
 use apex_types::Table;
 use call_script::{Script, parse_script};
 use config_table::read_table;
@@ -26,12 +26,12 @@ pub fn accepted_table<T: Source>(alloc: Global, source: &mut T) -> Result<Table,
 {
     let text = match read_source(alloc, source, 65_536) {
         Ok(text) => text,
-        Err(ReadStop::Fault) => return Err(Stop::TableSource),
-        Err(ReadStop::Memory) => return Err(Stop::Memory),
+        Err(ReadStop::Fault) => return Err(Stop::table_fault()),
+        Err(ReadStop::Memory) => return Err(Stop::memory()),
     };
     match read_table(alloc, text.bytes()) {
         Ok(table) => Ok(table),
-        Err(error) => Err(table_stop(error)),
+        Err(error) => Err(Stop::table(error)),
     }
 }
 
@@ -53,11 +53,11 @@ pub fn accepted_script<S: Source>(
 {
     let text = match read_source(alloc, source, 1_048_576) {
         Ok(text) => text,
-        Err(ReadStop::Fault) => return Err(Stop::ScriptSource),
-        Err(ReadStop::Memory) => return Err(Stop::Memory),
+        Err(ReadStop::Fault) => return Err(Stop::script_fault()),
+        Err(ReadStop::Memory) => return Err(Stop::memory()),
     };
     match parse_script(alloc, text.bytes(), table) {
         Ok(lines) => Ok(lines),
-        Err(error) => Err(script_stop(error)),
+        Err(error) => Err(Stop::script(error)),
     }
 }

@@ -1,17 +1,17 @@
 //! The command `format`.
-ghost use Rattle.std.specs.Prelude.{◌≡◌, ◌⊎◌, ◌≤◌, ℕ, List, Some, IfOk, IfErr, OnOk, Option};
+ghost use Rattle.std.specs.Prelude.{◌≡◌, ◌≢◌, ◌⊎◌, ◌≤◌, ℕ, List, Some, IfOk, IfErr, OnOk, Option};
 ghost use Rattle.rig_core.specs.Leaves.{IsAllSettled};
 ghost use Rattle.rig_core.specs.Outside.{Later};
 ghost use Rattle.apex_host.specs.Disk.{BeginsFormat, MakesEmpty, LeavesDisk};
 ghost use Rattle.apex_host.specs.Endings.{seen, EndsSo};
-ghost use Rattle.apex_host.specs.Stops.{ending_of, told_with, Owes};
+ghost use Rattle.apex_host.specs.Stops.{told_with, Owes};
 ghost use Rattle.apex_host.specs.Told.{formatted_line};
 
 use crate::accepting::accepted_table;
 use crate::command::Command;
 use crate::status::Status;
 use crate::stops::Stop;
-use crate::telling::{refused, told};
+use crate::telling::told;
 use call_script::ReplyText;
 use image_format::layout;
 use recover_scan::{FormatError, format};
@@ -34,18 +34,18 @@ fn formatted(blocks: u32) -> ReplyText
 fn format_image<T: Source, R: Rig>(alloc: Global, table: &mut T, rig: &mut R) -> Result<u32, Stop>
     requires settled { IsAllSettled (R.state rig.old) }
     ensures made { (script : Option (List ℕ)) (faults : ℕ) → IfOk result (λ blocks.
-        Owes R.tells_text (Some Command.Format)
+        Owes R.tells_text R.tells_view (Some Command.Format)
         (seen (T.left table.old) (T.faults table.old) script faults (R.state rig.old))
         (seen (T.left table.new) (T.faults table.new) script faults (R.state rig.new))
         (told_with Status.Done (formatted_line blocks))) }
-    ensures stopped { (script : Option (List ℕ)) (faults : ℕ) → IfErr result (λ stop.
-        Owes R.tells_text (Some Command.Format)
+    ensures stopped { (script : Option (List ℕ)) (faults : ℕ) → IfErr result
+        (Owes R.tells_text R.tells_view (Some Command.Format)
         (seen (T.left table.old) (T.faults table.old) script faults (R.state rig.old))
-        (seen (T.left table.new) (T.faults table.new) script faults (R.state rig.new))
-        (ending_of stop)) }
+        (seen (T.left table.new) (T.faults table.new) script faults (R.state rig.new))) }
     ensures empty { OnOk result
         (MakesEmpty R.tells_view (T.left table.old) (R.state rig.old) (R.state rig.new)) }
-    ensures failed { IfErr result (λ stop. (rig.new ≡ rig.old) ⊎ ((stop ≡ Stop.Device)
+    ensures failed { IfErr result (λ stop. ((stop.status ≢ Status.Done) × (rig.new ≡ rig.old))
+        ⊎ ((stop.status ≡ Status.DeviceFault)
         × BeginsFormat (T.left table.old) (R.state rig.old) (R.state rig.new))) }
     ensures later { Later (R.state rig.old) (R.state rig.new) }
     ensures table_later { T.faults table.old ≤ T.faults table.new }
@@ -56,9 +56,9 @@ fn format_image<T: Source, R: Rig>(alloc: Global, table: &mut T, rig: &mut R) ->
     };
     match format(alloc, rig, &rows) {
         Ok(()) => Ok(layout(&rows).blocks()),
-        Err(FormatError::TooSmall { wanted }) => Err(Stop::Small(wanted as u32)),
-        Err(FormatError::Device) => Err(Stop::Device),
-        Err(FormatError::Memory) => Err(Stop::Memory),
+        Err(FormatError::TooSmall { wanted }) => Err(Stop::small(wanted as u32)),
+        Err(FormatError::Device) => Err(Stop::format_fault()),
+        Err(FormatError::Memory) => Err(Stop::memory()),
     }
 }
 
@@ -68,16 +68,17 @@ fn format_image<T: Source, R: Rig>(alloc: Global, table: &mut T, rig: &mut R) ->
 pub fn format_device<T: Source, R: Rig>(alloc: Global, table: &mut T, rig: &mut R) -> Status
     requires settled { IsAllSettled (R.state rig.old) }
     ensures ends { (script : Option (List ℕ)) (faults : ℕ)
-        → EndsSo R.tells_text (Some Command.Format)
+        → EndsSo R.tells_text R.tells_view (Some Command.Format)
         (seen (T.left table.old) (T.faults table.old) script faults (R.state rig.old))
         (seen (T.left table.new) (T.faults table.new) script faults (R.state rig.new)) result }
-    ensures disk { LeavesDisk R.tells_view (T.left table.old) (R.state rig.old) (R.state rig.new)
+    ensures disk { (script : Option (List ℕ)) → LeavesDisk R.tells_text R.tells_view
+        (T.left table.old) script (R.state rig.old) (R.state rig.new)
         (Some Command.Format) result }
     ensures later { Later (R.state rig.old) (R.state rig.new) }
     ensures table_later { T.faults table.old ≤ T.faults table.new }
 {
     match format_image(alloc, table, rig) {
         Ok(blocks) => told(rig, formatted(blocks).bytes(), Status::Done),
-        Err(stop) => refused(rig, stop),
+        Err(stop) => told(rig, stop.line.bytes(), stop.status),
     }
 }

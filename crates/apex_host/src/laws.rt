@@ -1,18 +1,20 @@
 //! What follows from how a command ends. The functions are empty: each contract is a law of what
 //! `host` ensures, of any two moments.
-ghost use Rattle.std.specs.Prelude.{◌≡◌, ◌<◌, ◌≤◌, ℕ, List, Option, Some, None, Ok, Err};
+ghost use Rattle.std.specs.Prelude.{◌≡◌, ◌<◌, ◌≤◌, ℕ, List, [], Option, Some, None, Ok, Err};
 ghost use Rattle.apex_types.specs.Rows.{Rows};
 ghost use Rattle.apex_types.specs.declared.calls.Line.{Line};
+ghost use Rattle.apex_model.specs.Durable.{Durable, start};
+ghost use Rattle.apex_model.specs.Image.{Refusal as ImageRefusal, too_small, state_of};
 ghost use Rattle.apex_model.specs.Layout.{layout_blocks};
 ghost use Rattle.rig_core.specs.Causes.{Rose};
 ghost use Rattle.table_model.specs.Table.{table_of};
 ghost use Rattle.table_model.specs.declared.errors.TableError.{TableError};
-ghost use Rattle.script_model.specs.Script.{Refusal};
+ghost use Rattle.script_model.specs.Script.{Refusal, script_of};
 ghost use Rattle.script_model.specs.Refusals.{refusal_line};
-ghost use Rattle.apex_host.specs.Disk.{LeavesDisk, FormatsDisk};
-ghost use Rattle.apex_host.specs.Endings.{Seen, EndsSo, image_bytes};
+ghost use Rattle.apex_host.specs.Disk.{LeavesDisk, FormatsDisk, RunsSafely};
+ghost use Rattle.apex_host.specs.Endings.{Seen, DeviceFailed, EndsSo, image_bytes};
 ghost use Rattle.apex_host.specs.Laws.{Means, ReadsTable, ReadsLines, IsQuiet, IsQuietRun, IsQuietFormat, EndsWith, EndsOrStarves};
-ghost use Rattle.apex_host.specs.Told.{fresh_text, formatted_line, usage_line, table_refused_line, too_small_line};
+ghost use Rattle.apex_host.specs.Told.{run_text, formatted_line, usage_line, table_refused_line, image_refused_line};
 
 use crate::command::Command;
 use crate::status::Status;
@@ -21,12 +23,13 @@ use rig_core::Rig;
 /// A status comes only of its cause.
 pub fn statuses_mean<R: Rig>()
     ensures { (command : Option Command) (before after : Seen) (status : Status)
-        → EndsSo R.tells_text command before after status → Means command before after status }
+        → EndsSo R.tells_text R.tells_view command before after status
+        → Means R.tells_view command before after status }
 {}
 
 /// What is no command is answered with the words that there are, unless telling fails.
 pub fn tells_usage<R: Rig>()
-    ensures { (before after : Seen) (status : Status) → EndsSo R.tells_text None before after status
+    ensures { (before after : Seen) (status : Status) → EndsSo R.tells_text R.tells_view None before after status
         → ¬ (Rose before.tell_faults after.tell_faults)
         → EndsWith R.tells_text before after status Status.Usage usage_line }
 {}
@@ -35,7 +38,7 @@ pub fn tells_usage<R: Rig>()
 /// the table's source fails, or telling fails.
 pub fn refuses_tables<R: Rig>()
     ensures { (c : Command) (before after : Seen) (status : Status) (e : TableError)
-        → EndsSo R.tells_text (Some c) before after status → IsQuiet before after
+        → EndsSo R.tells_text R.tells_view (Some c) before after status → IsQuiet before after
         → ReadsTable before (Err e) → EndsOrStarves R.tells_text before after status
         Status.TableRefused (table_refused_line e) }
 {}
@@ -43,33 +46,48 @@ pub fn refuses_tables<R: Rig>()
 /// And so is a script, for a table that is accepted, unless a read of its source fails too.
 pub fn refuses_scripts<R: Rig>()
     ensures { (before after : Seen) (status : Status) (rows : Rows) (r : Refusal)
-        → EndsSo R.tells_text (Some Command.Run) before after status → IsQuietRun before after
+        → EndsSo R.tells_text R.tells_view (Some Command.Run) before after status → IsQuietRun before after
         → ReadsTable before (Ok rows) → ReadsLines rows before (Err r)
         → EndsOrStarves R.tells_text before after status Status.ScriptRefused (refusal_line r) }
 {}
 
-/// A script that is accepted is carried out, and each reply told, unless memory runs out or a call
-/// of the outside fails.
+/// An image that stands for no state of an accepted table is refused with the first reason, unless
+/// memory runs out or a call of the outside fails.
+pub fn refuses_images<R: Rig>()
+    ensures { R.tells_view → (before after : Seen) (status : Status) (rows : Rows)
+        (lines : List Line) (r : ImageRefusal)
+        → EndsSo R.tells_text R.tells_view (Some Command.Run) before after status
+        → IsQuietRun before after → ReadsTable before (Ok rows) → ReadsLines rows before (Ok lines)
+        → ¬ (DeviceFailed before after) → state_of rows before.view ≡ Err r
+        → EndsOrStarves R.tells_text before after status
+        Status.ImageRefused (image_refused_line r) }
+{}
+
+/// A script that is accepted is carried out from the state of the image, and each reply told, unless
+/// memory runs out or a call of the outside fails.
 pub fn carries_out<R: Rig>()
-    ensures { (before after : Seen) (status : Status) (rows : Rows) (lines : List Line)
-        → EndsSo R.tells_text (Some Command.Run) before after status → IsQuietRun before after
-        → ReadsTable before (Ok rows) → ReadsLines rows before (Ok lines)
-        → EndsOrStarves R.tells_text before after status Status.Done (fresh_text rows lines) }
+    ensures { R.tells_view → (before after : Seen) (status : Status) (rows : Rows)
+        (lines : List Line) (stored : Durable)
+        → EndsSo R.tells_text R.tells_view (Some Command.Run) before after status
+        → IsQuietRun before after → ReadsTable before (Ok rows) → ReadsLines rows before (Ok lines)
+        → ¬ (DeviceFailed before after) → state_of rows before.view ≡ Ok stored
+        → EndsOrStarves R.tells_text before after status
+        Status.Done (run_text rows [] (start rows stored) lines) }
 {}
 
 /// A device that is too small for the image of an accepted table is refused.
 pub fn refuses_small<R: Rig>()
     ensures { (before after : Seen) (status : Status) (rows : Rows)
-        → EndsSo R.tells_text (Some Command.Format) before after status → IsQuiet before after
+        → EndsSo R.tells_text R.tells_view (Some Command.Format) before after status → IsQuiet before after
         → ReadsTable before (Ok rows) → before.size < image_bytes rows
         → EndsOrStarves R.tells_text before after status
-        Status.ImageRefused (too_small_line (image_bytes rows)) }
+        Status.ImageRefused (image_refused_line (too_small (image_bytes rows))) }
 {}
 
 /// A device with room is formatted, unless memory runs out or a call of the outside fails.
 pub fn formats<R: Rig>()
     ensures { (before after : Seen) (status : Status) (rows : Rows)
-        → EndsSo R.tells_text (Some Command.Format) before after status → IsQuietFormat before after
+        → EndsSo R.tells_text R.tells_view (Some Command.Format) before after status → IsQuietFormat before after
         → ReadsTable before (Ok rows) → image_bytes rows ≤ before.size
         → EndsOrStarves R.tells_text before after status
         Status.Done (formatted_line (layout_blocks rows)) }
@@ -78,8 +96,20 @@ pub fn formats<R: Rig>()
 /// At every moment of a format with an accepted table a loss of power leaves the old image, one that
 /// is not formatted, or the empty one, and in each what a format doesn't write.
 pub fn formats_at_every_moment<R: Rig>()
-    ensures { (before after : R) (status : Status) (bytes : List ℕ) (rows : Rows)
-        → table_of bytes ≡ Ok rows
-        → LeavesDisk R.tells_view (Some bytes) (R.state before) (R.state after)
+    ensures { (before after : R) (status : Status) (bytes : List ℕ) (script : Option (List ℕ))
+        (rows : Rows) → table_of bytes ≡ Ok rows
+        → LeavesDisk R.tells_text R.tells_view (Some bytes) script (R.state before) (R.state after)
         (Some Command.Format) status → FormatsDisk rows (R.state before) (R.state after) }
+{}
+
+/// At every moment of a run with an accepted table and script a loss of power leaves the image as it
+/// was, or one that stands for a state which the text told until then allows.
+pub fn cuts_of_runs<R: Rig>()
+    ensures { R.tells_text → R.tells_view → (before after : R) (status : Status)
+        (table script : List ℕ) (rows : Rows) (lines : List Line) (stored : Durable)
+        → table_of table ≡ Ok rows → script_of rows script ≡ Ok lines
+        → state_of rows (R.state before).view ≡ Ok stored
+        → LeavesDisk R.tells_text R.tells_view (Some table) (Some script)
+        (R.state before) (R.state after) (Some Command.Run) status
+        → RunsSafely rows lines stored (R.state before) (R.state after) }
 {}

@@ -5,10 +5,9 @@ mod accepting;
 mod command;
 mod formatting;
 mod laws;
-mod lines;
+mod opening;
 mod reading;
 mod running;
-mod session;
 mod status;
 mod stops;
 mod telling;
@@ -16,9 +15,8 @@ mod top;
 
 pub use command::Command;
 pub use laws::{
-    carries_out, formats, formats_at_every_moment, refuses_scripts, refuses_small, refuses_tables,
-    statuses_mean, tells_usage,
+    carries_out, cuts_of_runs, formats, formats_at_every_moment, refuses_images, refuses_scripts,
+    refuses_small, refuses_tables, statuses_mean, tells_usage,
 };
-pub use session::Session;
 pub use status::Status;
 pub use top::host;

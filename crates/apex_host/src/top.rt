@@ -21,10 +21,11 @@ const USAGE: &[u8] = b"usage: format, run, only PARTITION, check, stress SEED LI
 fn tell_usage<R: Rig>(rig: &mut R) -> Status
     requires settled { IsAllSettled (R.state rig.old) }
     ensures ends { (table script : Option (List ℕ)) (table_faults script_faults : ℕ)
-        → EndsSo R.tells_text None (seen table table_faults script script_faults (R.state rig.old))
+        → EndsSo R.tells_text R.tells_view None
+        (seen table table_faults script script_faults (R.state rig.old))
         (seen table table_faults script script_faults (R.state rig.new)) result }
-    ensures disk { (left : Option (List ℕ))
-        → LeavesDisk R.tells_view left (R.state rig.old) (R.state rig.new) None result }
+    ensures disk { (table script : Option (List ℕ)) → LeavesDisk R.tells_text R.tells_view
+        table script (R.state rig.old) (R.state rig.new) None result }
     ensures later { Later (R.state rig.old) (R.state rig.new) }
 {
     told(rig, USAGE, Status::Usage)
@@ -34,11 +35,12 @@ fn tell_usage<R: Rig>(rig: &mut R) -> Status
 /// 65,536 bytes.
 ///
 /// `format` makes the device the empty image of that table, and tells its number of blocks. `run`
-/// reads the script from its source, up to 1,048,576 bytes, carries it out from the state of a
-/// module with nothing stored, and tells a reply line for each call. What comes first counts: the
-/// words, the table's source, the table, the script's source, the script, the device. Before the
-/// call all that was written to the device is on it: a cut leaves what reads give. The commands,
-/// the told lines and the statuses are this project's own.
+/// reads the script from its source, up to 1,048,576 bytes, carries it out from the state that the
+/// device's image stands for, and tells a reply line for each call. What comes first counts: the
+/// words, the table's source, the table, the script's source, the script, the image, the lines. All
+/// memory is taken before the first line. Before the call all that was written to the device is on
+/// it: a cut leaves what reads give. The commands, the told lines and the statuses are this
+/// project's own.
 pub fn host<T: Source, S: Source, R: Rig>(
     alloc: Global,
     words: &Words,
@@ -49,7 +51,7 @@ pub fn host<T: Source, S: Source, R: Rig>(
     requires settled { IsAllSettled (R.state rig.old) }
 
     // Why it ends, with which status, and what is told.
-    ensures ends { EndsSo R.tells_text (command_of_words words.now)
+    ensures ends { EndsSo R.tells_text R.tells_view (command_of_words words.now)
         (seen_by T.left T.faults S.left S.faults R.state table.old script.old rig.old)
         (seen_by T.left T.faults S.left S.faults R.state table.new script.new rig.new) result }
 
@@ -59,8 +61,8 @@ pub fn host<T: Source, S: Source, R: Rig>(
         (T.left table.old) (T.left table.new) (T.faults table.old) (T.faults table.new) }
 
     // What the disk is, at every moment and at the end.
-    ensures disk { LeavesDisk R.tells_view (T.left table.old) (R.state rig.old) (R.state rig.new)
-        (command_of_words words.now) result }
+    ensures disk { LeavesDisk R.tells_text R.tells_view (T.left table.old) (S.left script.old)
+        (R.state rig.old) (R.state rig.new) (command_of_words words.now) result }
 
     // The disk's size stays, and no count falls.
     ensures later { Later (R.state rig.old) (R.state rig.new) }

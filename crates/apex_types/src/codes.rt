@@ -20,13 +20,6 @@ impl<T: Drop> From<AllocFailed<T>> for OutOfMemory {
     }
 }
 
-/// A step of the services was not carried out: a call of the device failed, or there was no memory.
-#[derive(Clone, Copy, PartialEq, Eq)]
-pub enum StepFault {
-    Device,
-    Memory,
-}
-
 /// The return codes of the specification, with their numbers.
 #[derive(Clone, Copy, PartialEq, Eq)]
 pub enum ReturnCode {

@@ -16,7 +16,7 @@ mod text;
 pub use calls::{
     Call, Context, Deed, DirCall, FileCall, Line, LogbookCall, Mode, OpenMode, SamplingCall, Whence,
 };
-pub use codes::{Errno, OutOfMemory, ReturnCode, StepFault, code_of};
+pub use codes::{Errno, OutOfMemory, ReturnCode, code_of};
 pub use fields::{DirHandle, FileEntryField, FileHandle, LogCounts, RecordField, Spot};
 pub use kinds::CallKind;
 pub use lists::{FailList, NumberList, Words};

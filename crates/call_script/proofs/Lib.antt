@@ -5,3 +5,4 @@ pub mod Loop
 pub mod Numbers
 pub mod Refusals
 pub mod Scripts
+pub mod Verbs

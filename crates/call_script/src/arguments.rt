@@ -7,6 +7,7 @@ ghost use Rattle.std.specs.List.{list_all};
 ghost use Rattle.script_model.specs.Reading.{word_at, has_leading_zero, number_of, offset_of, number_at, offset_at, data_at, whence_at, open_mode_at, mode_at, context_at, both, earlier, rank, only_one, only_two, only_three, one_word, two_words, three_words};
 ghost use Rattle.call_script.specs.Gives.{Gives};
 
+use crate::words::find_word;
 use apex_types::{Context, Mode, OpenMode, Token, Whence};
 use hex::FromHexError;
 use script_model::LineFault;
@@ -274,14 +275,14 @@ fn offset(word: &[u8]) -> Result<i64, LineFault>
 fn whence(word: &[u8]) -> Result<Whence, LineFault>
     ensures { result ≡ whence_at word.now }
 {
-    if word == b"SEEK_SET".as_slice() {
-        Ok(Whence::Set)
-    } else if word == b"SEEK_CUR".as_slice() {
-        Ok(Whence::Cur)
-    } else if word == b"SEEK_END".as_slice() {
-        Ok(Whence::End)
-    } else {
-        Err(LineFault::WrongArguments)
+    let whences: [(&[u8], Whence); 3] = [
+        (b"SEEK_SET", Whence::Set),
+        (b"SEEK_CUR", Whence::Cur),
+        (b"SEEK_END", Whence::End),
+    ];
+    match find_word(&whences, word) {
+        Some(whence) => Ok(whence),
+        None => Err(LineFault::WrongArguments),
     }
 }
 
@@ -289,16 +290,15 @@ fn whence(word: &[u8]) -> Result<Whence, LineFault>
 fn mode(word: &[u8]) -> Result<Mode, LineFault>
     ensures { result ≡ mode_at word.now }
 {
-    if word == b"IDLE".as_slice() {
-        Ok(Mode::Idle)
-    } else if word == b"COLD_START".as_slice() {
-        Ok(Mode::ColdStart)
-    } else if word == b"WARM_START".as_slice() {
-        Ok(Mode::WarmStart)
-    } else if word == b"NORMAL".as_slice() {
-        Ok(Mode::Normal)
-    } else {
-        Err(LineFault::WrongArguments)
+    let modes: [(&[u8], Mode); 4] = [
+        (b"IDLE", Mode::Idle),
+        (b"COLD_START", Mode::ColdStart),
+        (b"WARM_START", Mode::WarmStart),
+        (b"NORMAL", Mode::Normal),
+    ];
+    match find_word(&modes, word) {
+        Some(mode) => Ok(mode),
+        None => Err(LineFault::WrongArguments),
     }
 }
 
@@ -306,12 +306,13 @@ fn mode(word: &[u8]) -> Result<Mode, LineFault>
 fn open_mode(word: &[u8]) -> Result<OpenMode, LineFault>
     ensures { result ≡ open_mode_at word.now }
 {
-    if word == b"READ_ONLY".as_slice() {
-        Ok(OpenMode::ReadOnly)
-    } else if word == b"READ_WRITE".as_slice() {
-        Ok(OpenMode::ReadWrite)
-    } else {
-        Err(LineFault::WrongArguments)
+    let modes: [(&[u8], OpenMode); 2] = [
+        (b"READ_ONLY", OpenMode::ReadOnly),
+        (b"READ_WRITE", OpenMode::ReadWrite),
+    ];
+    match find_word(&modes, word) {
+        Some(mode) => Ok(mode),
+        None => Err(LineFault::WrongArguments),
     }
 }
 
@@ -319,14 +320,14 @@ fn open_mode(word: &[u8]) -> Result<OpenMode, LineFault>
 fn context(word: &[u8]) -> Result<Context, LineFault>
     ensures { result ≡ context_at word.now }
 {
-    if word == b"ORDINARY".as_slice() {
-        Ok(Context::Ordinary)
-    } else if word == b"HANDLER".as_slice() {
-        Ok(Context::Handler)
-    } else if word == b"LOCKED".as_slice() {
-        Ok(Context::Locked)
-    } else {
-        Err(LineFault::WrongArguments)
+    let contexts: [(&[u8], Context); 3] = [
+        (b"ORDINARY", Context::Ordinary),
+        (b"HANDLER", Context::Handler),
+        (b"LOCKED", Context::Locked),
+    ];
+    match find_word(&contexts, word) {
+        Some(context) => Ok(context),
+        None => Err(LineFault::WrongArguments),
     }
 }
 

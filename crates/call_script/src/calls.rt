@@ -8,6 +8,7 @@ use crate::arguments::{
     number_and_bytes, number_and_offset, one_context, one_mode, one_number, one_path,
     path_and_mode, two_numbers, two_paths,
 };
+use crate::words::find_word;
 use apex_types::{Call, DirCall, FileCall, LogbookCall, SamplingCall};
 use script_model::{DirectoryVerb, FileVerb, LineFault, LogbookVerb, SamplingVerb, Verb};
 use std::alloc::Global;
@@ -16,98 +17,73 @@ use std::alloc::Global;
 fn file_verb(word: &[u8]) -> Option<FileVerb>
     ensures { result ≡ find_word file_verbs word.now }
 {
-    if word == b"OPEN_NEW_FILE".as_slice() {
-        Some(FileVerb::OpenNewFile)
-    } else if word == b"OPEN_FILE".as_slice() {
-        Some(FileVerb::OpenFile)
-    } else if word == b"CLOSE_FILE".as_slice() {
-        Some(FileVerb::CloseFile)
-    } else if word == b"READ_FILE".as_slice() {
-        Some(FileVerb::ReadFile)
-    } else if word == b"WRITE_FILE".as_slice() {
-        Some(FileVerb::WriteFile)
-    } else if word == b"SEEK_FILE".as_slice() {
-        Some(FileVerb::SeekFile)
-    } else if word == b"RESIZE_FILE".as_slice() {
-        Some(FileVerb::ResizeFile)
-    } else if word == b"SYNC_FILE".as_slice() {
-        Some(FileVerb::SyncFile)
-    } else if word == b"REMOVE_FILE".as_slice() {
-        Some(FileVerb::RemoveFile)
-    } else if word == b"RENAME_FILE".as_slice() {
-        Some(FileVerb::RenameFile)
-    } else if word == b"GET_FILE_STATUS".as_slice() {
-        Some(FileVerb::GetFileStatus)
-    } else if word == b"GET_VOLUME_STATUS".as_slice() {
-        Some(FileVerb::GetVolumeStatus)
-    } else {
-        None
-    }
+    let verbs: [(&[u8], FileVerb); 12] = [
+        (b"OPEN_NEW_FILE", FileVerb::OpenNewFile),
+        (b"OPEN_FILE", FileVerb::OpenFile),
+        (b"CLOSE_FILE", FileVerb::CloseFile),
+        (b"READ_FILE", FileVerb::ReadFile),
+        (b"WRITE_FILE", FileVerb::WriteFile),
+        (b"SEEK_FILE", FileVerb::SeekFile),
+        (b"RESIZE_FILE", FileVerb::ResizeFile),
+        (b"SYNC_FILE", FileVerb::SyncFile),
+        (b"REMOVE_FILE", FileVerb::RemoveFile),
+        (b"RENAME_FILE", FileVerb::RenameFile),
+        (b"GET_FILE_STATUS", FileVerb::GetFileStatus),
+        (b"GET_VOLUME_STATUS", FileVerb::GetVolumeStatus),
+    ];
+    find_word(&verbs, word)
 }
 
 /// The directory call of a word.
 fn directory_verb(word: &[u8]) -> Option<DirectoryVerb>
     ensures { result ≡ find_word directory_verbs word.now }
 {
-    if word == b"OPEN_DIRECTORY".as_slice() {
-        Some(DirectoryVerb::OpenDirectory)
-    } else if word == b"CLOSE_DIRECTORY".as_slice() {
-        Some(DirectoryVerb::CloseDirectory)
-    } else if word == b"READ_DIRECTORY".as_slice() {
-        Some(DirectoryVerb::ReadDirectory)
-    } else if word == b"REWIND_DIRECTORY".as_slice() {
-        Some(DirectoryVerb::RewindDirectory)
-    } else if word == b"MAKE_DIRECTORY".as_slice() {
-        Some(DirectoryVerb::MakeDirectory)
-    } else if word == b"REMOVE_DIRECTORY".as_slice() {
-        Some(DirectoryVerb::RemoveDirectory)
-    } else if word == b"SYNC_DIRECTORY".as_slice() {
-        Some(DirectoryVerb::SyncDirectory)
-    } else {
-        None
-    }
+    let verbs: [(&[u8], DirectoryVerb); 7] = [
+        (b"OPEN_DIRECTORY", DirectoryVerb::OpenDirectory),
+        (b"CLOSE_DIRECTORY", DirectoryVerb::CloseDirectory),
+        (b"READ_DIRECTORY", DirectoryVerb::ReadDirectory),
+        (b"REWIND_DIRECTORY", DirectoryVerb::RewindDirectory),
+        (b"MAKE_DIRECTORY", DirectoryVerb::MakeDirectory),
+        (b"REMOVE_DIRECTORY", DirectoryVerb::RemoveDirectory),
+        (b"SYNC_DIRECTORY", DirectoryVerb::SyncDirectory),
+    ];
+    find_word(&verbs, word)
 }
 
 /// The logbook call of a word.
 fn logbook_verb(word: &[u8]) -> Option<LogbookVerb>
     ensures { result ≡ find_word logbook_verbs word.now }
 {
-    if word == b"CREATE_LOGBOOK".as_slice() {
-        Some(LogbookVerb::Create)
-    } else if word == b"WRITE_LOGBOOK".as_slice() {
-        Some(LogbookVerb::Write)
-    } else if word == b"OVERWRITE_LOGBOOK".as_slice() {
-        Some(LogbookVerb::Overwrite)
-    } else if word == b"READ_LOGBOOK".as_slice() {
-        Some(LogbookVerb::Read)
-    } else if word == b"CLEAR_LOGBOOK".as_slice() {
-        Some(LogbookVerb::Clear)
-    } else if word == b"GET_LOGBOOK_ID".as_slice() {
-        Some(LogbookVerb::GetId)
-    } else if word == b"GET_LOGBOOK_STATUS".as_slice() {
-        Some(LogbookVerb::GetStatus)
-    } else {
-        None
-    }
+    let verbs: [(&[u8], LogbookVerb); 7] = [
+        (b"CREATE_LOGBOOK", LogbookVerb::Create),
+        (b"WRITE_LOGBOOK", LogbookVerb::Write),
+        (b"OVERWRITE_LOGBOOK", LogbookVerb::Overwrite),
+        (b"READ_LOGBOOK", LogbookVerb::Read),
+        (b"CLEAR_LOGBOOK", LogbookVerb::Clear),
+        (b"GET_LOGBOOK_ID", LogbookVerb::GetId),
+        (b"GET_LOGBOOK_STATUS", LogbookVerb::GetStatus),
+    ];
+    find_word(&verbs, word)
 }
 
 /// The sampling port call of a word.
 fn sampling_verb(word: &[u8]) -> Option<SamplingVerb>
     ensures { result ≡ find_word sampling_verbs word.now }
 {
-    if word == b"CREATE_SAMPLING_PORT".as_slice() {
-        Some(SamplingVerb::Create)
-    } else if word == b"WRITE_SAMPLING_MESSAGE".as_slice() {
-        Some(SamplingVerb::Write)
-    } else if word == b"READ_UPDATED_SAMPLING_MESSAGE".as_slice() {
-        Some(SamplingVerb::ReadUpdated)
-    } else if word == b"GET_SAMPLING_PORT_CURRENT_STATUS".as_slice() {
-        Some(SamplingVerb::CurrentStatus)
-    } else if word == b"READ_SAMPLING_MESSAGE_CONDITIONAL".as_slice() {
-        Some(SamplingVerb::ReadConditional)
-    } else {
-        None
-    }
+    let verbs: [(&[u8], SamplingVerb); 5] = [
+        (b"CREATE_SAMPLING_PORT", SamplingVerb::Create),
+        (b"WRITE_SAMPLING_MESSAGE", SamplingVerb::Write),
+        (b"READ_UPDATED_SAMPLING_MESSAGE", SamplingVerb::ReadUpdated),
+        (
+            b"GET_SAMPLING_PORT_CURRENT_STATUS",
+            SamplingVerb::CurrentStatus,
+        ),
+        (
+            b"READ_SAMPLING_MESSAGE_CONDITIONAL",
+            SamplingVerb::ReadConditional,
+        ),
+    ];
+    find_word(&verbs, word)
 }
 
 /// The call or directive of a word.

@@ -2,7 +2,8 @@
 
 ghost use Rattle.std.specs.Prelude.{◌≡◌, ◌≤◌, map, length, option_map, IfSome, ◌<◌};
 ghost use Rattle.std.specs.List.{list_all};
-ghost use Rattle.script_model.specs.Reading.{is_printable, verb_at, if_offered, call_at, ticks_at, partition_at, deed_from_words, deed_at};
+ghost use Rattle.script_model.specs.Reading.{is_printable, one, verb_at, if_offered, call_at, ticks_at, partition_at, deed_from_words, deed_at};
+ghost use Rattle.apex_types.specs.declared.calls.Deed.{Deed};
 ghost use Rattle.call_script.specs.Gives.{Gives};
 
 use crate::arguments::{number, one};
@@ -70,6 +71,15 @@ fn partition_of(table: &Table, word: &[u8]) -> Option<PartitionId>
     }
 }
 
+/// A tick by its argument.
+fn tick(arguments: &[&[u8]]) -> Result<Deed, LineFault>
+    ensures { Gives (λ d. d) result (one ticks_at Deed.Tick (map (λ w. w.now) arguments.now)) }
+{
+    let word = one(arguments)?;
+    let ticks = ticks(word)?;
+    Ok(Deed::Tick(ticks))
+}
+
 /// What the words of a line ask for.
 #[tactic(auto, unfolding(script_model::specs::Reading::deed_from_words))]
 fn deed_from_words(alloc: Global, table: &Table, words: &[&[u8]]) -> Result<Deed, LineFault>
@@ -80,9 +90,7 @@ fn deed_from_words(alloc: Global, table: &Table, words: &[&[u8]]) -> Result<Deed
         [] => Err(LineFault::UnknownPartition),
         [word, rest @ ..] => {
             if *word == b"TICK".as_slice() {
-                let word = one(rest)?;
-                let ticks = ticks(word)?;
-                return Ok(Deed::Tick(ticks));
+                return tick(rest);
             }
             match partition_of(table, word) {
                 Some(p) => {

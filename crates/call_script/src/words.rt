@@ -1,8 +1,8 @@
-//! Texts, cut at a byte.
+//! Texts, cut at a byte, and the meanings of words.
 
 ghost use Rattle.std.specs.Prelude.{◌≡◌, map, IfOk, ◌==◌};
 ghost use Rattle.std.specs.List.{slice_split};
-ghost use Rattle.script_model.specs.Reading.{words_of};
+ghost use Rattle.script_model.specs.Reading.{find_word, words_of};
 
 use std::alloc::{AllocError, Global};
 
@@ -18,4 +18,14 @@ pub fn words_of(alloc: Global, text: &[u8]) -> Result<Vec<&[u8]>, AllocError>
     ensures { IfOk result (λ words. map (λ w. w.now) words.items ≡ words_of text.now) }
 {
     parts_of(alloc, b' ', text)
+}
+
+/// What a word means in a list of words and meanings.
+pub fn find_word<V: Copy>(list: &[(&[u8], V)], word: &[u8]) -> Option<V>
+    ensures { result ≡ find_word (map (λ e. (e.0.now, e.1)) list.now) word.now }
+{
+    match list.iter().find(|entry| word == entry.0) {
+        Some(entry) => Some(entry.1),
+        None => None,
+    }
 }

@@ -3,3 +3,4 @@ pub mod MakingLaws
 pub mod OpeningLaws
 pub mod PathLaws
 pub mod RemovingLaws
+pub mod ServingLaws

@@ -1,7 +1,9 @@
 -- What stands at the end of a path, in the stores and in the file system that they stand for.
-use Rattle.std.proofs.Common.{◌≡◌, ℕ, zero, suc, ◌<◌, ◌≤◌, List, [], ◌∷◌, Option, Some, None, refl, ap, subst, length, arith}
-use Rattle.std.specs.Prelude.{slice_set, Result, Ok, Err, IfOk, IfErr, OnOk}
-use Rattle.apex_types.specs.declared.codes.Errno.{Errno}
+use Rattle.std.proofs.Common.{◌≡◌, ℕ, ◌+◌, ◌-◌, ◌<◌, ◌≤◌, List, [], ◌∷◌, ◌++◌, Option, Some, None, sym, ◌∙◌, ap, subst, length, take, get_or, arith}
+use Rattle.std.specs.Prelude.{slice_get}
+use Rattle.std.proofs.lemmas.Grind.{take_at_read}
+use Rattle.std.proofs.Math.Seq.{take-length}
+use Rattle.apex_types.specs.Rows.{Rows}
 use Rattle.apex_types.specs.declared.fields.Spot.{Spot}
 use Rattle.apex_types.specs.declared.fields.Spot.TheVariants as spot
 use Rattle.apex_types.specs.declared.numbers.DirNode.{DirNode}
@@ -9,40 +11,45 @@ use Rattle.apex_types.specs.declared.numbers.FileNode.{FileNode}
 use Rattle.apex_model.specs.Files.{File}
 use Rattle.apex_model.specs.FileSystem.{FileSystem, tree_in}
 use Rattle.apex_model.specs.Trees.{Name, Node, directory, file, standing_at}
-use Rattle.file_tree.specs.Entries.{TreeValue, IsSpotAt}
+use Rattle.apex_model.specs.Validity.{parent_of}
+use Rattle.file_tree.specs.Entries.{TreeValue, IsSpotAt, path_in}
+use Rattle.file_tree.proofs.Children.{free-path}
 use Rattle.open_handles.specs.NodeHandles.{AllHandles}
 use Rattle.store_model.specs.Stores.{StoreValue}
 use Rattle.store_model.specs.Systems.{Stands, store_at, directory_path}
-use Rattle.memory_store.specs.Refusals.{IsRefusal}
-use Rattle.memory_store.specs.declared.refusal.StoreRefusal.{StoreRefusal}
-use Rattle.memory_store.specs.declared.refusal.StoreRefusal.TheVariants.{Refused}
 use Rattle.store_model.proofs.Spots.{spot-same}
 use Rattle.store_model.proofs.Systems.{store-there}
+use Rattle.tree_store.specs.Serving.{AreOfTable}
+use Rattle.tree_store.specs.declared.store.TreeStore.{TreeStore}
+use Rattle.service_parts.specs.Serving.{AllOutline}
+use Rattle.service_parts.proofs.Held.{stores_long, trees_long}
 
 -- a path at which nothing stands has a name at least
 pub names-some : (v : TreeValue) (names : List Name) → standing_at v.nodes names ≡ None → 1 ≤ length names
 names-some v [] e = absurd (let w : ◌≡◌ {A = Option (Node ℕ)} (Some directory) None = e in cc)
 names-some v (name ∷ names) e = omega arith
 
--- a store in its own place changes nothing
-pub set-own : (stores : List StoreValue) (t : ℕ) (v : StoreValue) → v ≡ store_at stores t → slice_set stores t v ≡ stores
-set-own [] t v e = refl
-set-own (w ∷ stores) zero v e = ap (λ (u : StoreValue). u ∷ stores) e
-set-own (w ∷ stores) (suc t) v e = ap (λ (us : List StoreValue). w ∷ us) (set-own stores t v e)
+-- where a walk ends with nothing, the last name in the parent gives the whole path
+pub path-whole : (v : TreeValue) (parent : DirNode) (names : List Name) (name : Name) → IsSpotAt v names (spot.Free parent) → slice_get names (length names - 1) ≡ Some name → path_in v parent.0 name ≡ names
+path-whole v parent names name free last = free-path v names parent.0 name free.0 last (names-some v names free.1)
 
--- why a store refused
-pub refused-reason : {A : Type 0} (result : Result A StoreRefusal) (e reason : Errno) (condition : Type 0) (old new : StoreValue) → result ≡ Err (Refused e)
-    → IfErr result (λ r. IsRefusal reason condition old r new) → (e ≡ reason) × condition × (new ≡ old)
-refused-reason result e reason condition old new is given = subst (λ (r : Result _ StoreRefusal). IfErr r (λ r. IsRefusal reason condition old r new)) is given
+-- a path is its parent's with one more name
+pub last-of : (names : List Name) → 1 ≤ length names → (name : Name) × (parent_of names ++ name ∷ [] ≡ names)
+last-of names some =
+    let k = length names - 1 in
+    let low : k < length names = omega (arith, some) in
+    let long : k + 1 ≡ length names = omega (arith, some) in
+    (get_or names k [], sym (take_at_read names k [] low).1 ∙ ap (λ (n : ℕ). take n names) long ∙ take-length names)
 
--- what follows of a value, where there is one
-pub if_ok-map : {A E : Type 0} (result : Result A E) (P Q : A → Type 0) → ((a : A) → P a → Q a) → IfOk result P → IfOk result Q
-if_ok-map (Ok a) P Q follows given = follows a given
-if_ok-map (Err e) P Q follows given = given
+-- ---- how many trees and values there are
 
-pub on_ok-from : {A E : Type 0} (result : Result A E) (P : A → Type 0) (Q : Type 0) → ((a : A) → P a → Q) → IfOk result P → OnOk result Q
-on_ok-from (Ok a) P Q follows given = follows a given
-on_ok-from (Err e) P Q follows given = given
+pub within_trees : (table : Rows) (trees : List TreeStore) (handles : AllHandles) → AreOfTable table trees handles → (t : ℕ) → t < length table.trees → t < length trees
+within_trees table trees handles of t low = let long = trees_long table trees handles of in omega (arith, long, low)
+
+pub within_stores : (trees : List TreeStore) (stores : List StoreValue) → AllOutline trees stores → (t : ℕ) → t < length trees → t < length stores
+within_stores trees stores all t low = let long = stores_long trees stores all in omega (arith, long, low)
+
+-- ---- what stands at the end of a path
 
 module _ (stores : List StoreValue) (handles : AllHandles) (t : ℕ) (names : List Name) (low : t < length stores) (end : Spot) (at : IsSpotAt (store_at stores t).tree names end) where
   -- nothing stands at the path

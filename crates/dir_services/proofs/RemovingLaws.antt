@@ -1,5 +1,6 @@
 -- Removing directories.
 use Rattle.std.proofs.Common.{◌≡◌, ◌≢◌, ℕ, zero, suc, ◌<◌, ◌≤◌, ◌-◌, ◌+◌, ◌++◌, ◌∷◌, [], Bool, true, false, ◌||◌, List, Option, Some, None, Ok, Err, refl, sym, ◌∙◌, ap, subst, length, arith}
+use Rattle.std.specs.FinMap.Entries.{find}
 use Rattle.std.specs.Prelude.{map, slice_set, unwrap_or}
 use Rattle.std.proofs.lemmas.List.{length-append}
 use Rattle.apex_types.specs.Rows.{Rows}
@@ -9,7 +10,6 @@ use Rattle.apex_types.specs.declared.fields.Spot.{Spot}
 use Rattle.apex_types.specs.declared.fields.Spot.TheVariants as spot
 use Rattle.apex_types.specs.declared.numbers.DirNode.{DirNode}
 use Rattle.apex_types.specs.declared.numbers.FileNode.{FileNode}
-use Rattle.apex_types.specs.declared.replies.Reply.{Reply}
 use Rattle.apex_types.specs.declared.replies.Values.TheVariants.{Empty}
 use Rattle.apex_model.specs.DirectoryStep.{remove_directory_at, remove_directory, has_entries}
 use Rattle.apex_model.specs.FileStep.{FileOutcome, is_empty}
@@ -17,23 +17,34 @@ use Rattle.apex_model.specs.FileSystem.{FileSystem, tree_in, handles_in}
 use Rattle.apex_model.specs.Handles.{any_open, is_directory_handle_to, with_directories_gone}
 use Rattle.apex_model.specs.Outcomes.{accepted, success, refusal, refuse_if}
 use Rattle.apex_model.specs.Tables.{Place, place_of, owner_alone}
-use Rattle.apex_model.specs.Trees.{Name, directory, standing_at, walk, without_node, entries_within}
+use Rattle.apex_model.specs.Trees.{Name, Node, directory, path_cmp, standing_at, walk, without_node, entries_within}
 use Rattle.apex_model.specs.Validity.{parent_of}
-use Rattle.file_tree.specs.Entries.{TreeValue, IsSpotAt, IsConsistent, slot, way_of, in_directory, without_directory}
+use Rattle.file_tree.specs.Entries.{TreeValue, Place as Entry, IsSpotAt, IsConsistent, slot, way_of, in_directory, path_at, node_at, without_directory}
+use Rattle.file_tree.proofs.Changes.{is_some, slot-within}
+use Rattle.file_tree.proofs.Listing.{found-within}
+use Rattle.file_tree.proofs.Paths.{at_found, changed_directory}
+use Rattle.file_tree.proofs.Ways.{not_some}
 use Rattle.open_handles.specs.NodeHandles.{AllHandles, handles_of, with_directory_gone}
 use Rattle.open_handles.specs.Nodes.{holds_directory}
-use Rattle.store_model.specs.Standing.{IsTree}
-use Rattle.store_model.specs.Stores.{StoreValue, IsSound, with_names}
+use Rattle.store_model.specs.Stores.{StoreValue, with_names}
 use Rattle.store_model.specs.Systems.{Stands, store_at, directory_path}
 use Rattle.store_model.proofs.Changes.{removed_directory-stands}
 use Rattle.store_model.proofs.HandlesHeld.{holds_directory-same}
 use Rattle.store_model.proofs.Listing.{empty-within, some-within}
 use Rattle.store_model.proofs.Systems.{store-there, map-of_table}
 use Rattle.store_model.proofs.SystemsSteps.{gone_directory-stands, gone_directory-of_table}
-use Rattle.service_parts.specs.Serving.{IsServed}
+use Rattle.rig_core.specs.Outside.{Outside}
+use Rattle.tree_store.specs.Answers.{removal_refusal, removed_directory}
+use Rattle.tree_store.specs.Calls.{AtTree}
+use Rattle.tree_store.specs.Serving.{AllHold}
+use Rattle.tree_store.specs.Stored.{names_of}
+use Rattle.tree_store.specs.declared.store.TreeStore.{TreeStore}
+use Rattle.service_parts.specs.Serving.{Serves}
+use Rattle.service_parts.proofs.Consistent.{without-consistent}
+use Rattle.service_parts.proofs.Held.{all_outlined, at_value}
 use Rattle.service_parts.proofs.PathWords.{on_path-err, on_path-walk}
-use Rattle.service_parts.proofs.Served.{refused-served, accepted-served, step-served}
-use Rattle.dir_services.proofs.PathLaws.{free-there, file-there, directory-there, root-path, root-there}
+use Rattle.service_parts.proofs.Served.{refused-served, accepted-served}
+use Rattle.dir_services.proofs.PathLaws.{free-there, file-there, directory-there, last-of, root-path, root-there, within_stores}
 
 -- the state without the directory
 abbrev removed : FileSystem → Place → FileSystem
@@ -48,9 +59,28 @@ entry-of : (v : TreeValue) (n : ℕ) (names : List Name) → n ≢ 0 → way_of 
 entry-of v zero names some e = absurd (some refl)
 entry-of v (suc k) names some e = let same : suc k - 1 ≡ k = omega arith in ap (slot v.directories) same ∙ e
 
--- the path of a directory, in a store that is another's value
-pub path-as : (old v : StoreValue) (n : ℕ) (names : List Name) → old ≡ v → way_of v.tree n ≡ Some names → unwrap_or (way_of old.tree n) [] ≡ names
-path-as old v n names e path = ap (λ (w : StoreValue). unwrap_or (way_of w.tree n) []) e ∙ ap (λ (o : Option (List Name)). unwrap_or o []) path
+-- why a store refuses to remove a directory, by what stands in it
+refusal-of : List (Name × Node ℕ) → Option Errno
+refusal-of [] = None
+refusal-of (entry ∷ entries) = Some Enotempty
+
+empty-of : (entries : List (Name × Node ℕ)) → refusal-of entries ≡ None → entries ≡ []
+unfolding refusal-of
+empty-of [] none = refl
+empty-of (entry ∷ entries) none = absurd (not_some (sym none))
+
+reason-of : (entries : List (Name × Node ℕ)) (e : Errno) → refusal-of entries ≡ Some e → (Enotempty ≡ e) × (1 ≤ length entries)
+unfolding refusal-of
+reason-of [] e reason = absurd (not_some reason)
+reason-of (entry ∷ entries) e reason = (cc, omega arith)
+
+-- a directory in which nothing stands is the parent of no entry
+childless : (v : TreeValue) → IsConsistent v → (names : List Name) → entries_within v.nodes names ≡ [] → (b : Entry) (path : List Name) → path_at v.files v.directories b ≡ Some path → names ≢ parent_of path
+childless v c names none b path at same =
+    let last = last-of path (c.some b path at) in
+    let whole : path ≡ names ++ last.0 ∷ [] = sym last.1 ∙ ap (λ (way : List Name). way ++ last.0 ∷ []) (sym same) in
+    found-within v.nodes names last.0 (node_at b)
+    (ap (λ (q : List Name). find path_cmp q v.nodes) (sym whole) ∙ ap (find path_cmp path) c.nodes_are ∙ at_found v.files v.directories c.distinct b path at) none
 
 -- a path of names is not the root's
 is_empty-long : (names : List Name) → 1 ≤ length names → is_empty names ≡ false
@@ -79,62 +109,89 @@ module _ (stores : List StoreValue) (handles : AllHandles) (p : ℕ) (place : Pl
         λ i. remove_where fs place (long i || open_same i) (entries i)
 
     pub remove-busy : any_open (holds_directory place.tree d) (handles_of handles p).directories ≡ true
-        → IsServed (λ fs. remove_directory_at fs p place (Some directory)) stores handles stores handles (refusal Ebusy)
+        → Serves (λ fs. remove_directory_at fs p place (Some directory)) stores handles stores handles (refusal Ebusy)
     remove-busy held = refused-served (λ fs. remove_directory_at fs p place (Some directory)) stores handles Ebusy
         (λ fs s. remove-by true (has_entries (entries_within (tree_in fs place.tree) place.names)) fs s held refl)
 
-    pub remove-full : any_open (holds_directory place.tree d) (handles_of handles p).directories ≡ false → 1 ≤ length (entries_within (store_at stores place.tree).tree.nodes place.names)
-        → IsServed (λ fs. remove_directory_at fs p place (Some directory)) stores handles stores handles (refusal Enotempty)
+    remove-full : any_open (holds_directory place.tree d) (handles_of handles p).directories ≡ false → 1 ≤ length (entries_within (store_at stores place.tree).tree.nodes place.names)
+        → Serves (λ fs. remove_directory_at fs p place (Some directory)) stores handles stores handles (refusal Enotempty)
     remove-full closed some = refused-served (λ fs. remove_directory_at fs p place (Some directory)) stores handles Enotempty
         (λ fs s. remove-by false true fs s closed (some-within (store_at stores place.tree) (tree_in fs place.tree) (store-there stores handles fs s place.tree low) place.names some))
 
-    pub remove-done : (v : StoreValue) → any_open (holds_directory place.tree d) (handles_of handles p).directories ≡ false
-        → entries_within (store_at stores place.tree).tree.nodes place.names ≡ []
-        → v ≡ with_names (store_at stores place.tree) (without_directory (store_at stores place.tree).tree (d.0 - 1) place.names) → IsSound v
-        → IsServed (λ fs. remove_directory_at fs p place (Some directory)) stores handles (slice_set stores place.tree v) (map (with_directory_gone place.tree d) handles) (success Empty)
-    remove-done v closed none is sound =
+    remove-done : any_open (holds_directory place.tree d) (handles_of handles p).directories ≡ false → entries_within (store_at stores place.tree).tree.nodes place.names ≡ []
+        → Serves (λ fs. remove_directory_at fs p place (Some directory)) stores handles
+        (slice_set stores place.tree (with_names (store_at stores place.tree) (without_directory (store_at stores place.tree).tree (d.0 - 1) place.names)))
+        (map (with_directory_gone place.tree d) handles) (success Empty)
+    remove-done closed none =
+        let old = store_at stores place.tree in
+        let v = with_names old (without_directory old.tree (d.0 - 1) place.names) in
+        let used = entry-of old.tree d.0 place.names below path in
         accepted-served (λ fs. remove_directory_at fs p place (Some directory)) stores handles (slice_set stores place.tree v) (map (with_directory_gone place.tree d) handles) Empty
         (λ fs s.
         let tree = store-there stores handles fs s place.tree low in
-        let new_tree = without_node (tree_in fs place.tree) place.names in
-        let used = entry-of (store_at stores place.tree).tree d.0 place.names below path in
-        let consistent : IsConsistent (without_directory (store_at stores place.tree).tree (d.0 - 1) place.names) = subst (λ (w : StoreValue). IsConsistent w.tree) is sound.names in
-        let stands_for : IsTree v new_tree
-        = subst (λ (w : StoreValue). IsTree w new_tree) (sym is) (removed_directory-stands (store_at stores place.tree) (tree_in fs place.tree) (d.0 - 1) place.names tree used consistent) in
+        let c = tree.sound.names in
+        let consistent : IsConsistent (without_directory old.tree (d.0 - 1) place.names)
+        = without-consistent old.tree c old.tree.files (slice_set old.tree.directories (d.0 - 1) None) old.tree.stored (in_directory (d.0 - 1)) place.names
+        (changed_directory old.tree.files old.tree.directories (d.0 - 1) None (slot-within old.tree.directories (d.0 - 1) (is_some used))) used (childless old.tree c place.names none) c.stored in
         record {
           after = removed fs place;
-          is = remove-by false false fs s closed (empty-within (store_at stores place.tree) (tree_in fs place.tree) tree place.names none);
-          stands = gone_directory-stands stores handles fs s place.tree v new_tree stands_for d place.names below path is;
+          is = remove-by false false fs s closed (empty-within old (tree_in fs place.tree) tree place.names none);
+          stands = gone_directory-stands stores handles fs s place.tree v (without_node (tree_in fs place.tree) place.names)
+              (removed_directory-stands old (tree_in fs place.tree) (d.0 - 1) place.names tree used consistent) d place.names below path refl;
         })
-        (λ table o. map-of_table table (slice_set stores place.tree v) handles (gone_directory-of_table table stores handles o place.tree v (d.0 - 1) place.names is) (with_directory_gone place.tree d))
+        (λ table o. map-of_table table (slice_set stores place.tree v) handles (gone_directory-of_table table stores handles o place.tree v (d.0 - 1) place.names refl) (with_directory_gone place.tree d))
+
+    -- the directory's entry has the place's path
+    way-is : unwrap_or (way_of (store_at stores place.tree).tree d.0) [] ≡ place.names
+    way-is = ap (λ (o : Option (List Name)). unwrap_or o []) path
+
+    -- the store gives the directory up
+    pub remove-word : any_open (holds_directory place.tree d) (handles_of handles p).directories ≡ false → removal_refusal (store_at stores place.tree) d.0 ≡ None
+        → Serves (λ fs. remove_directory_at fs p place (Some directory)) stores handles (slice_set stores place.tree (removed_directory (store_at stores place.tree) d.0))
+        (map (with_directory_gone place.tree d) handles) (success Empty)
+    unfolding refusal-of
+    remove-word closed none =
+        let old = store_at stores place.tree in
+        let removed_at : List Name → List StoreValue = λ way. slice_set stores place.tree (with_names old (without_directory old.tree (d.0 - 1) way)) in
+        let empty : entries_within old.tree.nodes place.names ≡ []
+        = ap (entries_within old.tree.nodes) (sym way-is) ∙ empty-of (entries_within old.tree.nodes (unwrap_or (way_of old.tree d.0) [])) none in
+        subst (λ (way : List Name). Serves (λ fs. remove_directory_at fs p place (Some directory)) stores handles (removed_at way) (map (with_directory_gone place.tree d) handles) (success Empty))
+        (sym way-is) (remove-done closed empty)
+
+    -- the store refuses it
+    pub remove-refused : any_open (holds_directory place.tree d) (handles_of handles p).directories ≡ false → (e : Errno) → removal_refusal (store_at stores place.tree) d.0 ≡ Some e
+        → Serves (λ fs. remove_directory_at fs p place (Some directory)) stores handles stores handles (refusal e)
+    unfolding refusal-of
+    remove-refused closed e reason =
+        let old = store_at stores place.tree in
+        let why = reason-of (entries_within old.tree.nodes (unwrap_or (way_of old.tree d.0) [])) e reason in
+        let some : 1 ≤ length (entries_within old.tree.nodes place.names) = subst (λ (way : List Name). 1 ≤ length (entries_within old.tree.nodes way)) way-is why.1 in
+        subst (λ (e : Errno). Serves (λ fs. remove_directory_at fs p place (Some directory)) stores handles stores handles (refusal e)) why.0 (remove-full closed some)
 
   module _ (end : Spot) (at : IsSpotAt (store_at stores place.tree).tree place.names end) where
     -- nothing stands at the path
     pub remove-nothing : (parent : DirNode) → end ≡ spot.Free parent
-        → IsServed (λ fs. remove_directory_at fs p place (standing_at (tree_in fs place.tree) place.names)) stores handles stores handles (refusal Enoent)
+        → Serves (λ fs. remove_directory_at fs p place (standing_at (tree_in fs place.tree) place.names)) stores handles stores handles (refusal Enoent)
     remove-nothing parent e = refused-served (λ fs. remove_directory_at fs p place (standing_at (tree_in fs place.tree) place.names)) stores handles Enoent
         (λ fs s. ap (remove_directory_at fs p place) (free-there stores handles place.tree place.names low end at parent e fs s))
 
     -- a file stands there
     pub remove-file : (parent : DirNode) (node : FileNode) (name : Name) → end ≡ spot.File parent node name
-        → IsServed (λ fs. remove_directory_at fs p place (standing_at (tree_in fs place.tree) place.names)) stores handles stores handles (refusal Enotdir)
+        → Serves (λ fs. remove_directory_at fs p place (standing_at (tree_in fs place.tree) place.names)) stores handles stores handles (refusal Enotdir)
     remove-file parent node name e = refused-served (λ fs. remove_directory_at fs p place (standing_at (tree_in fs place.tree) place.names)) stores handles Enotdir
         (λ fs s. ap (remove_directory_at fs p place) (file-there stores handles place.tree place.names low end at parent node name e fs s).1)
 
     -- it is the root
-    pub remove-root : end ≡ spot.Root → IsServed (λ fs. remove_directory_at fs p place (standing_at (tree_in fs place.tree) place.names)) stores handles stores handles (refusal Ebusy)
+    pub remove-root : end ≡ spot.Root → Serves (λ fs. remove_directory_at fs p place (standing_at (tree_in fs place.tree) place.names)) stores handles stores handles (refusal Ebusy)
     remove-root e = refused-served (λ fs. remove_directory_at fs p place (standing_at (tree_in fs place.tree) place.names)) stores handles Ebusy
         (λ fs s. ap (remove_directory_at fs p place) (root-there stores handles place.tree place.names low end at e fs s)
         ∙ ap (λ (names : List Name). remove_where fs place (is_empty names || any_open (is_directory_handle_to place.tree place.names) (handles_in fs p).directories)
         (has_entries (entries_within (tree_in fs place.tree) place.names))) (root-path stores handles place.tree place.names low end at e))
 
     -- a directory stands there
-    pub remove-directory : (parent node : DirNode) (name : Name) (new_stores : List StoreValue) (new_handles : AllHandles) (told : Reply) → end ≡ spot.Directory parent node name
-        → IsServed (λ fs. remove_directory_at fs p place (Some directory)) stores handles new_stores new_handles told
-        → IsServed (λ fs. remove_directory_at fs p place (standing_at (tree_in fs place.tree) place.names)) stores handles new_stores new_handles told
-    remove-directory parent node name new_stores new_handles told e served =
-        step-served (λ fs. remove_directory_at fs p place (standing_at (tree_in fs place.tree) place.names)) stores handles (λ fs. remove_directory_at fs p place (Some directory)) new_stores new_handles told
-        (λ fs s. ap (remove_directory_at fs p place) (directory-there stores handles place.tree place.names low end at parent node name e fs s)) served
+    pub remove-directory : (parent node : DirNode) (name : Name) → end ≡ spot.Directory parent node name → (fs : FileSystem) → Stands stores handles fs
+        → remove_directory_at fs p place (standing_at (tree_in fs place.tree) place.names) ≡ remove_directory_at fs p place (Some directory)
+    remove-directory parent node name e fs s = ap (remove_directory_at fs p place) (directory-there stores handles place.tree place.names low end at parent node name e fs s)
 
     pub found-below : (parent node : DirNode) (name : Name) → end ≡ spot.Directory parent node name → node.0 ≢ 0
     found-below parent node name e =
@@ -148,20 +205,35 @@ remove_rest : FileSystem → ℕ → Place → FileOutcome
 remove_rest fs p place = remove_directory_at fs p place (standing_at (tree_in fs place.tree) place.names)
 
 module _ (table : Rows) (stores : List StoreValue) (handles : AllHandles) (p : ℕ) (bytes : List ℕ) where
-  pub remove_path-refused : (e : Errno) → place_of table owner_alone p bytes ≡ Err e → IsServed (λ fs. remove_directory table fs p bytes) stores handles stores handles (refusal e)
+  pub remove_path-refused : (e : Errno) → place_of table owner_alone p bytes ≡ Err e → Serves (λ fs. remove_directory table fs p bytes) stores handles stores handles (refusal e)
   unfolding remove_directory remove_rest
   remove_path-refused e is = refused-served (λ fs. remove_directory table fs p bytes) stores handles e (λ fs s. on_path-err table owner_alone p bytes fs e (remove_rest fs p) is)
 
   module _ (place : Place) (is : place_of table owner_alone p bytes ≡ Ok place) (low : place.tree < length stores) where
-    pub remove_path-blocked : (e : Errno) → walk (store_at stores place.tree).tree.nodes place.names ≡ Some e → IsServed (λ fs. remove_directory table fs p bytes) stores handles stores handles (refusal e)
+    pub remove_path-blocked : (e : Errno) → walk (store_at stores place.tree).tree.nodes place.names ≡ Some e → Serves (λ fs. remove_directory table fs p bytes) stores handles stores handles (refusal e)
     unfolding remove_directory remove_rest
     remove_path-blocked e met = refused-served (λ fs. remove_directory table fs p bytes) stores handles e
         (λ fs s. on_path-walk table owner_alone p bytes stores handles fs s place is low (Some e) (remove_rest fs p) met)
 
-    pub remove_path-leads : (new_stores : List StoreValue) (new_handles : AllHandles) (told : Reply) → walk (store_at stores place.tree).tree.nodes place.names ≡ None
-        → IsServed (λ fs. remove_directory_at fs p place (standing_at (tree_in fs place.tree) place.names)) stores handles new_stores new_handles told
-        → IsServed (λ fs. remove_directory table fs p bytes) stores handles new_stores new_handles told
+    pub remove_path-leads : walk (store_at stores place.tree).tree.nodes place.names ≡ None → (fs : FileSystem) → Stands stores handles fs
+        → remove_directory table fs p bytes ≡ remove_directory_at fs p place (standing_at (tree_in fs place.tree) place.names)
     unfolding remove_directory remove_rest
-    remove_path-leads new_stores new_handles told met served =
-        step-served (λ fs. remove_directory table fs p bytes) stores handles (λ fs. remove_directory_at fs p place (standing_at (tree_in fs place.tree) place.names)) new_stores new_handles told
-        (λ fs s. on_path-walk table owner_alone p bytes stores handles fs s place is low None (remove_rest fs p) met) served
+    remove_path-leads met fs s = on_path-walk table owner_alone p bytes stores handles fs s place is low None (remove_rest fs p) met
+
+-- ---- over stored trees
+
+module _ (V : Type 0) (o : Outside) (trees : List TreeStore) (handles : AllHandles) (p : ℕ) (place : Place) (within : place.tree < length trees) (d : DirNode) (below : d.0 ≢ 0)
+    (stands : AtTree trees place.tree (λ store. way_of (names_of store) d.0 ≡ Some place.names)) (closed : any_open (holds_directory place.tree d) (handles_of handles p).directories ≡ false)
+    (stores : List StoreValue) (hold : AllHold V o trees stores) where
+  path-held : directory_path stores place.tree d ≡ Some place.names
+  path-held = at_value trees stores (all_outlined V o trees stores hold) (λ v. way_of v d.0 ≡ Some place.names) place.tree within stands
+
+  -- the word of the value that a tree holds serves the step
+  pub remove-serves : removal_refusal (store_at stores place.tree) d.0 ≡ None
+      → Serves (λ fs. remove_directory_at fs p place (Some directory)) stores handles (slice_set stores place.tree (removed_directory (store_at stores place.tree) d.0))
+      (map (with_directory_gone place.tree d) handles) (success Empty)
+  remove-serves = remove-word stores handles p place (within_stores trees stores (all_outlined V o trees stores hold) place.tree within) d below path-held closed
+
+  -- and its refusal is the step's
+  pub remove-refuses : (e : Errno) → removal_refusal (store_at stores place.tree) d.0 ≡ Some e → Serves (λ fs. remove_directory_at fs p place (Some directory)) stores handles stores handles (refusal e)
+  remove-refuses = remove-refused stores handles p place (within_stores trees stores (all_outlined V o trees stores hold) place.tree within) d below path-held closed

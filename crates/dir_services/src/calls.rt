@@ -1,22 +1,20 @@
 // The directory calls.
-ghost use Rattle.std.specs.Prelude.{◌≡◌, ◌<◌, length, IfOk, IfErr, OnOk};
+ghost use Rattle.std.specs.Prelude.{◌<◌, false, length, map, OnOk};
 ghost use Rattle.apex_model.specs.Accepted.{IsAccepted};
 ghost use Rattle.apex_model.specs.DirectoryStep.{directory_service, directory_step};
-ghost use Rattle.apex_model.specs.FileSystem.{FileSystem};
-ghost use Rattle.apex_model.specs.Outcomes.{reply_of, state_after};
-ghost use Rattle.store_model.specs.Systems.{Stands, IsOfTable, IsServing};
-ghost use Rattle.service_parts.specs.Serving.{IsServed};
-ghost use Rattle.service_parts.specs.Told.{IsTellable};
+ghost use Rattle.rig_core.specs.Windows.{AreLaidOut};
+ghost use Rattle.tree_store.specs.Serving.{AreOfTable, AreServing, AreStored, sites_of, window_of};
+ghost use Rattle.service_parts.specs.Serving.{AreInService, IsServed, ReadsFailed};
 
 use crate::listing::{read_directory, rewind_directory, sync_directory};
 use crate::making::make_directory;
 use crate::opening::{close_directory, open_directory};
 use crate::removing::remove_directory;
-use apex_types::{DirCall, Errno, PartitionId, Reply, StepFault, Table};
-use memory_store::Trees;
+use apex_types::{DirCall, Errno, PartitionId, Reply, Table};
 use open_handles::Handles;
-use rig_core::Rig;
+use rig_core::{DeviceFault, Rig};
 use service_parts::refusal;
+use tree_store::Trees;
 
 /// Carries out a directory call of a partition that is ready for one.
 fn serve<R: Rig>(
@@ -26,14 +24,13 @@ fn serve<R: Rig>(
     rig: &mut R,
     p: PartitionId,
     call: &DirCall,
-) -> Result<Reply, StepFault>
+) -> Result<Reply, DeviceFault>
     requires accepted { IsAccepted table.now }
     requires caller { p.0 < length handles.old }
-    requires of_table { IsOfTable table.now trees.old handles.old }
-    requires valid { IsServing table.now trees.old handles.old }
-    ensures served { IfOk result (IsServed (λ fs. directory_service table.now fs p.0 call.now) trees.old handles.old trees.new handles.new) }
-    ensures fault { IfErr result (λ fault. fault ≡ StepFault.Memory) }
-    ensures rig { rig.new ≡ rig.old }
+    requires of_table { AreOfTable table.now trees.old handles.old }
+    requires serving { AreInService R.tells_view (R.state rig.old) trees.old handles.old }
+    ensures { IsServed R.tells_view (λ fs. directory_service table.now fs p.0 call.now) ⊥ 52 3
+        trees.old trees.new handles.old handles.new (R.state rig.old) (R.state rig.new) result }
 {
     match call {
         DirCall::OpenDirectory { path } => {
@@ -50,7 +47,8 @@ fn serve<R: Rig>(
     }
 }
 
-/// Carries out a directory call of a partition, or refuses it with EPERM where the partition isn't ready for one.
+/// Carries out a directory call of a partition, or refuses it with EPERM where the partition isn't ready for one. A
+/// failed write or sync is a fault of the device, after which trees and handles are of no use; no call makes a read.
 pub fn dir_call<R: Rig>(
     table: &Table,
     trees: &mut Trees,
@@ -59,18 +57,19 @@ pub fn dir_call<R: Rig>(
     p: PartitionId,
     ready: bool,
     call: &DirCall,
-) -> Result<Reply, StepFault>
+) -> Result<Reply, DeviceFault>
     requires accepted { IsAccepted table.now }
     requires caller { p.0 < length table.now.partitions }
-    requires of_table { IsOfTable table.now trees.old handles.old }
-    requires valid { IsServing table.now trees.old handles.old }
-    ensures of_table { OnOk result (IsOfTable table.now trees.new handles.new) }
-    ensures valid { OnOk result (IsServing table.now trees.new handles.new) }
-    ensures reply { IfOk result (λ reply. (fs : FileSystem) → Stands trees.old handles.old fs → reply ≡ reply_of (directory_step table.now fs p.0 ready call.now)) }
-    ensures state { OnOk result ((fs : FileSystem) → Stands trees.old handles.old fs → Stands trees.new handles.new (state_after fs (directory_step table.now fs p.0 ready call.now))) }
-    ensures fault { IfErr result (λ fault. fault ≡ StepFault.Memory) }
-    ensures rig { rig.new ≡ rig.old }
-    ensures tellable { IfOk result IsTellable }
+    requires of_table { AreOfTable table.now trees.old handles.old }
+    requires laid_out { AreLaidOut (map window_of (sites_of trees.old)) (R.state rig.old).size }
+    requires stored { AreStored R.tells_view (R.state rig.old) trees.old }
+    requires serving { AreServing R.tells_view (R.state rig.old) table.now trees.old handles.old }
+    ensures served { IsServed R.tells_view (λ fs. directory_step table.now fs p.0 ready call.now)
+        (ReadsFailed false (R.state rig.old) (R.state rig.new)) 52 3
+        trees.old trees.new handles.old handles.new (R.state rig.old) (R.state rig.new) result }
+    ensures serving { OnOk result
+        (AreServing R.tells_view (R.state rig.new) table.now trees.new handles.new) }
+    ensures of_table { AreOfTable table.now trees.new handles.new }
 {
     if !ready {
         return Ok(refusal(Errno::Eperm));

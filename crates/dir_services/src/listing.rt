@@ -2,16 +2,18 @@
 ghost use Rattle.std.specs.Prelude.{◌≡◌, ◌<◌, List, [], length, Some, unwrap_or};
 ghost use Rattle.apex_model.specs.DirectoryStep.{read_directory as read_step, rewind_directory as rewind_step, sync_directory as sync_step};
 ghost use Rattle.apex_model.specs.Handles.{handle_at};
-ghost use Rattle.file_tree.specs.Entries.{IsNextSpot};
+ghost use Rattle.file_tree.specs.Entries.{IsNextSpot, way_of};
 ghost use Rattle.open_handles.specs.NodeHandles.{handles_of};
 ghost use Rattle.store_model.specs.Stores.{StoreValue};
-ghost use Rattle.store_model.specs.Systems.{store_at, directory_path};
-ghost use Rattle.service_parts.specs.Serving.{AreServing, IsServed};
+ghost use Rattle.tree_store.specs.Calls.{AtTree};
+ghost use Rattle.tree_store.specs.Stored.{names_of};
+ghost use Rattle.service_parts.specs.Serving.{AllOutline, Serves};
+ghost use Rattle.dir_services.specs.Seen.{AreSeenServing};
 
 use apex_types::{DirHandle, DirNode, Errno, Name, PartitionId, Reply, Spot, Values};
-use memory_store::Trees;
 use open_handles::Handles;
 use service_parts::{refusal, success};
+use tree_store::Trees;
 
 /// The last name that was given of a directory.
 fn last_of(handle: &DirHandle) -> Option<Name>
@@ -37,8 +39,10 @@ fn give(
     requires within { handle.tree < length trees.now }
     requires held { handle_at (handles_of handles.old p.0).directories id ≡ Some handle }
     requires has_directory { handle.directory ≡ Some directory }
-    requires next { IsNextSpot (store_at trees.now handle.tree).tree (unwrap_or (directory_path trees.now handle.tree directory) []) handle.last (Some spot) }
-    ensures { IsServed (λ fs. read_step fs p.0 id) trees.now handles.old trees.now handles.new result }
+    requires next { AtTree trees.now handle.tree (λ store. IsNextSpot (names_of store)
+        (unwrap_or (way_of (names_of store) directory.0) []) handle.last (Some spot)) }
+    ensures { (stores : List StoreValue) → AllOutline trees.now stores
+        → Serves (λ fs. read_step fs p.0 id) stores handles.old stores handles.new result }
 {
     match spot {
         Spot::Free { .. } => success(Values::EndOfDirectory),
@@ -48,18 +52,20 @@ fn give(
             success(Values::DirectoryEntry { name })
         }
         Spot::File { node, name, .. } => {
-            let size = trees.get(handle.tree).size(node);
+            let size = trees.size(handle.tree, node);
             handles.set_last(p, id, Some(name.copy()));
             success(Values::FileEntry { name, size })
         }
     }
 }
 
-/// The entry of an open directory with the least name behind the last one given, or the end, which leaves the handle as it is.
+/// The entry of an open directory with the least name behind the last one given, or the end, which leaves the handle as
+/// it is.
 pub fn read_directory(trees: &Trees, handles: &mut Handles, p: PartitionId, id: u32) -> Reply
     requires caller { p.0 < length handles.old }
-    requires serving { AreServing trees.now handles.old }
-    ensures { IsServed (λ fs. read_step fs p.0 id) trees.now handles.old trees.now handles.new result }
+    requires seen { AreSeenServing trees.now handles.old }
+    ensures { (stores : List StoreValue) → AllOutline trees.now stores
+        → Serves (λ fs. read_step fs p.0 id) stores handles.old stores handles.new result }
 {
     let Some(handle) = handles.directory(p, id) else {
         return refusal(Errno::Ebadf);
@@ -67,8 +73,10 @@ pub fn read_directory(trees: &Trees, handles: &mut Handles, p: PartitionId, id: 
     let Some(directory) = handle.directory else {
         return refusal(Errno::Estale);
     };
-    let tree = trees.get(handle.tree).tree();
-    match tree.next_entry(directory, last_of(&handle)) {
+    match trees
+        .tree(handle.tree)
+        .next_entry(directory, last_of(&handle))
+    {
         None => success(Values::EndOfDirectory),
         Some(spot) => give(trees, handles, p, id, handle, directory, spot),
     }
@@ -77,7 +85,8 @@ pub fn read_directory(trees: &Trees, handles: &mut Handles, p: PartitionId, id: 
 /// Starts the listing of an open directory again: no name was given of it.
 pub fn rewind_directory(handles: &mut Handles, p: PartitionId, id: u32) -> Reply
     requires { p.0 < length handles.old }
-    ensures { (stores : List StoreValue) → IsServed (λ fs. rewind_step fs p.0 id) stores handles.old stores handles.new result }
+    ensures { (stores : List StoreValue)
+        → Serves (λ fs. rewind_step fs p.0 id) stores handles.old stores handles.new result }
 {
     let Some(handle) = handles.directory(p, id) else {
         return refusal(Errno::Ebadf);
@@ -89,10 +98,12 @@ pub fn rewind_directory(handles: &mut Handles, p: PartitionId, id: u32) -> Reply
     success(Values::Empty)
 }
 
-/// Makes sure of an open directory. Nothing has to be done for that, since each change of names is kept when it is made.
+/// Makes sure of an open directory. Nothing has to be done for that, since each change of names is durable when it is
+/// made.
 pub fn sync_directory(handles: &Handles, p: PartitionId, id: u32) -> Reply
     requires { p.0 < length handles.now }
-    ensures { (stores : List StoreValue) → IsServed (λ fs. sync_step fs p.0 id) stores handles.now stores handles.now result }
+    ensures { (stores : List StoreValue)
+        → Serves (λ fs. sync_step fs p.0 id) stores handles.now stores handles.now result }
 {
     let Some(handle) = handles.directory(p, id) else {
         return refusal(Errno::Ebadf);

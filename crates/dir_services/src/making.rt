@@ -1,20 +1,21 @@
 // Making directories.
-ghost use Rattle.std.specs.Prelude.{◌≡◌, ◌<◌, length, IfOk, IfErr};
-ghost use Rattle.std.specs.List.{AllZip};
+ghost use Rattle.std.specs.Prelude.{◌<◌, length};
 ghost use Rattle.apex_types.specs.Rows.{Rows};
 ghost use Rattle.apex_model.specs.Accepted.{IsAccepted};
 ghost use Rattle.apex_model.specs.DirectoryStep.{make_directory as make_step};
 ghost use Rattle.file_tree.specs.Entries.{IsSpotAt};
 ghost use Rattle.open_handles.specs.NodeHandles.{AllHandles};
-ghost use Rattle.store_model.specs.Systems.{HasLimits, IsOfTable, store_at};
+ghost use Rattle.tree_store.specs.Calls.{AtTree};
+ghost use Rattle.tree_store.specs.Serving.{AreOfTable};
+ghost use Rattle.tree_store.specs.Stored.{names_of};
 ghost use Rattle.service_parts.specs.Places.{model_place};
-ghost use Rattle.service_parts.specs.Serving.{IsServed};
+ghost use Rattle.service_parts.specs.Serving.{AreInService, IsServed};
 ghost use Rattle.dir_services.specs.Steps.{make_at};
 
-use apex_types::{DirNode, Errno, PartitionId, Reply, Spot, StepFault, Table, Values};
-use memory_store::{StoreRefusal, Trees};
-use rig_core::Rig;
+use apex_types::{DirNode, Errno, PartitionId, Reply, Spot, Table, Values};
+use rig_core::{DeviceFault, Rig};
 use service_parts::{Place, Right, last_name, place_of, refusal, success};
+use tree_store::{StoreRefusal, Trees};
 
 /// Makes a directory in one that has nothing of its name, if the tree has room for it.
 fn make_in<R: Rig>(
@@ -22,21 +23,23 @@ fn make_in<R: Rig>(
     rig: &mut R,
     place: Place,
     parent: DirNode,
-) -> Result<Reply, StepFault>
+) -> Result<Reply, DeviceFault>
+    requires serving { (handles : AllHandles)
+        × AreInService R.tells_view (R.state rig.old) trees.old handles }
     requires within { place.tree < length trees.old }
-    requires free { IsSpotAt (store_at trees.old place.tree).tree place.path.names (Spot.Free parent) }
-    ensures served { IfOk result (λ reply. (table : Rows) (handles : AllHandles) → IsOfTable table trees.old handles
-        → IsServed (λ fs. make_at table fs (model_place place)) trees.old handles trees.new handles reply) }
-    ensures fault { IfErr result (λ fault. fault ≡ StepFault.Memory) }
-    ensures rig { rig.new ≡ rig.old }
+    requires free { AtTree trees.old place.tree (λ store.
+        IsSpotAt (names_of store) place.path.names (Spot.Free parent)) }
+    ensures { (table : Rows) (handles : AllHandles) → AreOfTable table trees.old handles
+        → AreInService R.tells_view (R.state rig.old) trees.old handles
+        → IsServed R.tells_view (λ fs. make_at table fs (model_place place)) ⊥ 52 3
+        trees.old trees.new handles handles (R.state rig.old) (R.state rig.new) result }
 {
     let name = last_name(&place.path.names);
-    let store = trees.get_mut(place.tree);
-    match store.make_dir(rig, parent, name) {
+    match trees.make_dir(rig, place.tree, parent, name) {
         Ok(_) => Ok(success(Values::Empty)),
         Err(StoreRefusal::Refused(errno)) => Ok(refusal(errno)),
-        Err(StoreRefusal::Device) => Err(StepFault::Device),
-        Err(StoreRefusal::Memory) => Err(StepFault::Memory),
+        Err(StoreRefusal::ReadFault) => unreachable!(),
+        Err(StoreRefusal::Device) => Err(DeviceFault),
     }
 }
 
@@ -46,13 +49,16 @@ fn make_spot<R: Rig>(
     rig: &mut R,
     place: Place,
     spot: Spot,
-) -> Result<Reply, StepFault>
+) -> Result<Reply, DeviceFault>
+    requires serving { (handles : AllHandles)
+        × AreInService R.tells_view (R.state rig.old) trees.old handles }
     requires within { place.tree < length trees.old }
-    requires found { IsSpotAt (store_at trees.old place.tree).tree place.path.names spot }
-    ensures served { IfOk result (λ reply. (table : Rows) (handles : AllHandles) → IsOfTable table trees.old handles
-        → IsServed (λ fs. make_at table fs (model_place place)) trees.old handles trees.new handles reply) }
-    ensures fault { IfErr result (λ fault. fault ≡ StepFault.Memory) }
-    ensures rig { rig.new ≡ rig.old }
+    requires found { AtTree trees.old place.tree (λ store.
+        IsSpotAt (names_of store) place.path.names spot) }
+    ensures { (table : Rows) (handles : AllHandles) → AreOfTable table trees.old handles
+        → AreInService R.tells_view (R.state rig.old) trees.old handles
+        → IsServed R.tells_view (λ fs. make_at table fs (model_place place)) ⊥ 52 3
+        trees.old trees.new handles handles (R.state rig.old) (R.state rig.new) result }
 {
     match spot {
         Spot::Free { parent } => make_in(trees, rig, place, parent),
@@ -62,26 +68,27 @@ fn make_spot<R: Rig>(
     }
 }
 
-/// Makes a directory at a path.
+/// Makes a directory at a path. A failed write or sync is a fault of the device, after which the trees are of no use.
 pub fn make_directory<R: Rig>(
     table: &Table,
     trees: &mut Trees,
     rig: &mut R,
     p: PartitionId,
     path: &[u8],
-) -> Result<Reply, StepFault>
+) -> Result<Reply, DeviceFault>
     requires accepted { IsAccepted table.now }
-    requires limits { AllZip HasLimits table.now.trees trees.old }
-    ensures served { IfOk result (λ reply. (handles : AllHandles) → IsOfTable table.now trees.old handles
-        → IsServed (λ fs. make_step table.now fs p.0 path.now) trees.old handles trees.new handles reply) }
-    ensures fault { IfErr result (λ fault. fault ≡ StepFault.Memory) }
-    ensures rig { rig.new ≡ rig.old }
+    requires serving { (handles : AllHandles) × AreOfTable table.now trees.old handles
+        × AreInService R.tells_view (R.state rig.old) trees.old handles }
+    ensures { (handles : AllHandles) → AreOfTable table.now trees.old handles
+        → AreInService R.tells_view (R.state rig.old) trees.old handles
+        → IsServed R.tells_view (λ fs. make_step table.now fs p.0 path.now) ⊥ 52 3
+        trees.old trees.new handles handles (R.state rig.old) (R.state rig.new) result }
 {
     let place = match place_of(table, Right::Owner, p, path) {
         Err(errno) => return Ok(refusal(errno)),
         Ok(place) => place,
     };
-    match trees.get(place.tree).tree().walk(&place.path) {
+    match trees.tree(place.tree).walk(&place.path) {
         Err(errno) => Ok(refusal(errno)),
         Ok(spot) => make_spot(trees, rig, place, spot),
     }

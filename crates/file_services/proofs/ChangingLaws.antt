@@ -1,7 +1,8 @@
 -- Changing files, and making sure of them.
-use Rattle.std.proofs.Common.{◌≡◌, ℕ, ◌+◌, ◌<◌, ◌≤◌, Bool, true, false, List, Option, Some, None, sym, ◌∙◌, ap, subst, arith, length}
+use Rattle.std.proofs.Common.{◌≡◌, ℕ, ◌+◌, ◌-◌, ◌<◌, ◌≤◌, Bool, true, false, List, Option, Some, None, sym, ◌∙◌, ap, subst, arith, length, take, replicate, length-append, length-take}
 use Rattle.std.specs.Prelude.{◌==◌, ◌||◌, nat_lt, not, min, slice_set}
 use Rattle.std.proofs.lemmas.Bool.Decides.{nat_tests}
+use Rattle.std.proofs.lemmas.List.{length-replicate}
 use Rattle.apex_types.specs.Rows.{Rows}
 use Rattle.apex_types.specs.declared.calls.OpenMode.{OpenMode}
 use Rattle.apex_types.specs.declared.calls.OpenMode.TheVariants.{ReadOnly, ReadWrite}
@@ -25,7 +26,7 @@ use Rattle.store_model.proofs.Changes.{change-refused, change-within, changed-st
 use Rattle.store_model.proofs.Systems.{quota-is, set-of_table}
 use Rattle.store_model.proofs.SystemsSteps.{changed_file-stands, synchronised_file-stands, changed_file-of_table, synchronised_file-of_table}
 use Rattle.store_model.proofs.SystemsWords.{on_file_handle-there, on_file_handle-absent, on_file-stale}
-use Rattle.service_parts.specs.Serving.{IsServed}
+use Rattle.service_parts.specs.Serving.{Serves}
 use Rattle.service_parts.proofs.Served.{Goes, refused-served, accepted-served}
 use Rattle.file_services.proofs.Held.{Held, held-at}
 use Rattle.store_model.proofs.SystemsWords.{on_file-there}
@@ -99,12 +100,12 @@ module _ (table : Rows) (stores : List StoreValue) (handles : AllHandles) (o : I
 -- ---- WRITE_FILE
 
 module _ (table : Rows) (stores : List StoreValue) (handles : AllHandles) (p id : ℕ) (bytes : List ℕ) where
-  pub write-bad_id : handle_at (handles_of handles p).files id ≡ None → IsServed (λ fs. write_file table fs p id bytes) stores handles stores handles (refusal Ebadf)
+  pub write-bad_id : handle_at (handles_of handles p).files id ≡ None → Serves (λ fs. write_file table fs p id bytes) stores handles stores handles (refusal Ebadf)
   unfolding write_file write_rest write_on
   write-bad_id none = refused-served (λ fs. write_file table fs p id bytes) stores handles Ebadf
       (λ fs s. on_file_handle-absent stores handles fs s p id (write_rest table fs p id bytes) none)
 
-  pub write-readonly : (h : FileHandle) → handle_at (handles_of handles p).files id ≡ Some h → h.mode ≡ ReadOnly → IsServed (λ fs. write_file table fs p id bytes) stores handles stores handles (refusal Eacces)
+  pub write-readonly : (h : FileHandle) → handle_at (handles_of handles p).files id ≡ Some h → h.mode ≡ ReadOnly → Serves (λ fs. write_file table fs p id bytes) stores handles stores handles (refusal Eacces)
   unfolding write_file write_rest write_on
   write-readonly h at mode = refused-served (λ fs. write_file table fs p id bytes) stores handles Eacces
       (λ fs s. on_file_handle-there stores handles fs s p id h (write_rest table fs p id bytes) at
@@ -121,16 +122,16 @@ module _ (table : Rows) (stores : List StoreValue) (handles : AllHandles) (p id 
       refuse_if ((length bytes == 0) || nat_lt 4096 (length bytes)) Einval (on_file fs (opened_file stores h) (write_on table fs p id bytes (opened_file stores h))))) (writes h mode)
 
   write-length : (h : FileHandle) → handle_at (handles_of handles p).files id ≡ Some h → h.mode ≡ ReadWrite → ((length bytes == 0) || nat_lt 4096 (length bytes)) ≡ true
-      → IsServed (λ fs. write_file table fs p id bytes) stores handles stores handles (refusal Einval)
+      → Serves (λ fs. write_file table fs p id bytes) stores handles stores handles (refusal Einval)
   write-length h at mode test = refused-served (λ fs. write_file table fs p id bytes) stores handles Einval
       (λ fs s. write-mode h at mode fs s ∙ ap (λ (b : Bool). refuse_if b Einval (on_file fs (opened_file stores h) (write_on table fs p id bytes (opened_file stores h)))) test)
 
   pub write-empty : (h : FileHandle) → handle_at (handles_of handles p).files id ≡ Some h → h.mode ≡ ReadWrite → length bytes ≡ 0
-      → IsServed (λ fs. write_file table fs p id bytes) stores handles stores handles (refusal Einval)
+      → Serves (λ fs. write_file table fs p id bytes) stores handles stores handles (refusal Einval)
   write-empty h at mode none = write-length h at mode (grind (arith, nat_tests))
 
   pub write-long : (h : FileHandle) → handle_at (handles_of handles p).files id ≡ Some h → h.mode ≡ ReadWrite → 4096 < length bytes
-      → IsServed (λ fs. write_file table fs p id bytes) stores handles stores handles (refusal Einval)
+      → Serves (λ fs. write_file table fs p id bytes) stores handles stores handles (refusal Einval)
   write-long h at mode many = write-length h at mode (grind (arith, nat_tests))
 
   -- a write of so many bytes as may be
@@ -141,7 +142,7 @@ module _ (table : Rows) (stores : List StoreValue) (handles : AllHandles) (p id 
       write-mode h at mode fs s ∙ ap (λ (b : Bool). refuse_if b Einval (on_file fs (opened_file stores h) (write_on table fs p id bytes (opened_file stores h)))) fine
 
   pub write-stale : (h : FileHandle) → handle_at (handles_of handles p).files id ≡ Some h → h.mode ≡ ReadWrite → 1 ≤ length bytes → length bytes ≤ 4096 → h.file ≡ None
-      → IsServed (λ fs. write_file table fs p id bytes) stores handles stores handles (refusal Estale)
+      → Serves (λ fs. write_file table fs p id bytes) stores handles stores handles (refusal Estale)
   write-stale h at mode some few none = refused-served (λ fs. write_file table fs p id bytes) stores handles Estale
       (λ fs s. write-fits h at mode some few fs s ∙ on_file-stale stores handles fs s h (write_on table fs p id bytes (opened_file stores h)) none)
 
@@ -157,7 +158,7 @@ module _ (table : Rows) (stores : List StoreValue) (handles : AllHandles) (p id 
 
   pub write-refused : (o : IsOfTable table stores handles) (h : FileHandle) (f : FileNode) (e : Errno) → handle_at (handles_of handles p).files id ≡ Some h → h.file ≡ Some f → h.mode ≡ ReadWrite
       → 1 ≤ length bytes → length bytes ≤ 4096 → change_refusal (store_at stores h.tree) f.0 (length (written (kept_at (store_at stores h.tree) f.0).content h.position bytes)) ≡ Some e
-      → IsServed (λ fs. write_file table fs p id bytes) stores handles stores handles (refusal e)
+      → Serves (λ fs. write_file table fs p id bytes) stores handles stores handles (refusal e)
   write-refused o h f e at is mode some few refused = refused-served (λ fs. write_file table fs p id bytes) stores handles e
       (λ fs s. let held = held-at stores handles p id h f at is fs s in
       let content = written (kept_at (store_at stores h.tree) f.0).content h.position bytes in
@@ -166,27 +167,41 @@ module _ (table : Rows) (stores : List StoreValue) (handles : AllHandles) (p id 
       ∙ change-is table stores handles o p id h f at fs held content (h.position + length bytes) (Number (length bytes))
       ∙ ap (λ (o : Option Errno). refuse_for o done) refused)
 
+  pub write-goes : (o : IsOfTable table stores handles) (h : FileHandle) (f : FileNode) (v : StoreValue) → handle_at (handles_of handles p).files id ≡ Some h → h.file ≡ Some f → h.mode ≡ ReadWrite
+      → 1 ≤ length bytes → length bytes ≤ 4096 → change_refusal (store_at stores h.tree) f.0 (length (written (kept_at (store_at stores h.tree) f.0).content h.position bytes)) ≡ None
+      → v ≡ changed_store (store_at stores h.tree) f.0 (written (kept_at (store_at stores h.tree) f.0).content h.position bytes) → (fs : FileSystem) → Stands stores handles fs
+      → Goes (λ fs. write_file table fs p id bytes) (slice_set stores h.tree v) (with_file_slot handles p id (Some (record h { position = h.position + length bytes }))) (Number (length bytes)) fs
+  write-goes o h f v at is mode some few fine new fs s =
+      let content = written (kept_at (store_at stores h.tree) f.0).content h.position bytes in
+      let held = held-at stores handles p id h f at is fs s in
+      change-goes table stores handles o p id h f at (λ fs. write_file table fs p id bytes) content (h.position + length bytes) (Number (length bytes)) v fs s held fine new
+      (write-change h f at is mode some few fs s held)
+
   pub write-done : (o : IsOfTable table stores handles) (h : FileHandle) (f : FileNode) (v : StoreValue) → handle_at (handles_of handles p).files id ≡ Some h → h.file ≡ Some f → h.mode ≡ ReadWrite
       → 1 ≤ length bytes → length bytes ≤ 4096 → change_refusal (store_at stores h.tree) f.0 (length (written (kept_at (store_at stores h.tree) f.0).content h.position bytes)) ≡ None
       → v ≡ changed_store (store_at stores h.tree) f.0 (written (kept_at (store_at stores h.tree) f.0).content h.position bytes)
-      → IsServed (λ fs. write_file table fs p id bytes) stores handles (slice_set stores h.tree v) (with_file_slot handles p id (Some (record h { position = h.position + length bytes }))) (success (Number (length bytes)))
+      → Serves (λ fs. write_file table fs p id bytes) stores handles (slice_set stores h.tree v) (with_file_slot handles p id (Some (record h { position = h.position + length bytes }))) (success (Number (length bytes)))
   write-done o h f v at is mode some few fine new =
-      let content = written (kept_at (store_at stores h.tree) f.0).content h.position bytes in
       accepted-served (λ fs. write_file table fs p id bytes) stores handles (slice_set stores h.tree v) (with_file_slot handles p id (Some (record h { position = h.position + length bytes }))) (Number (length bytes))
-      (λ fs s. let held = held-at stores handles p id h f at is fs s in
-      change-goes table stores handles o p id h f at (λ fs. write_file table fs p id bytes) content (h.position + length bytes) (Number (length bytes)) v fs s held fine new
-      (write-change h f at is mode some few fs s held))
-      (change-of_table table stores handles o p id h f at content (h.position + length bytes) v new)
+      (write-goes o h f v at is mode some few fine new)
+      (change-of_table table stores handles o p id h f at (written (kept_at (store_at stores h.tree) f.0).content h.position bytes) (h.position + length bytes) v new)
 
 -- ---- RESIZE_FILE
 
+length-resized : (content : Content) (n : ℕ) → length (resized content n) ≡ n
+length-resized content n =
+    let filled = length-append (take n content) (replicate (n - length content) 0) in
+    let few = length-take n content in
+    let zeros = length-replicate {A = ℕ} (n - length content) 0 in
+    omega (arith, filled, few, zeros)
+
 module _ (table : Rows) (stores : List StoreValue) (handles : AllHandles) (p id n : ℕ) where
-  pub resize-bad_id : handle_at (handles_of handles p).files id ≡ None → IsServed (λ fs. resize_file table fs p id n) stores handles stores handles (refusal Ebadf)
+  pub resize-bad_id : handle_at (handles_of handles p).files id ≡ None → Serves (λ fs. resize_file table fs p id n) stores handles stores handles (refusal Ebadf)
   unfolding resize_file resize_rest resize_on
   resize-bad_id none = refused-served (λ fs. resize_file table fs p id n) stores handles Ebadf
       (λ fs s. on_file_handle-absent stores handles fs s p id (resize_rest table fs p id n) none)
 
-  pub resize-readonly : (h : FileHandle) → handle_at (handles_of handles p).files id ≡ Some h → h.mode ≡ ReadOnly → IsServed (λ fs. resize_file table fs p id n) stores handles stores handles (refusal Eacces)
+  pub resize-readonly : (h : FileHandle) → handle_at (handles_of handles p).files id ≡ Some h → h.mode ≡ ReadOnly → Serves (λ fs. resize_file table fs p id n) stores handles stores handles (refusal Eacces)
   unfolding resize_file resize_rest resize_on
   resize-readonly h at mode = refused-served (λ fs. resize_file table fs p id n) stores handles Eacces
       (λ fs s. on_file_handle-there stores handles fs s p id h (resize_rest table fs p id n) at
@@ -201,7 +216,7 @@ module _ (table : Rows) (stores : List StoreValue) (handles : AllHandles) (p id 
       ∙ ap (λ (b : Bool). refuse_if b Eacces (on_file fs (opened_file stores h) (resize_on table fs p id n (opened_file stores h)))) (writes h mode)
 
   pub resize-stale : (h : FileHandle) → handle_at (handles_of handles p).files id ≡ Some h → h.mode ≡ ReadWrite → h.file ≡ None
-      → IsServed (λ fs. resize_file table fs p id n) stores handles stores handles (refusal Estale)
+      → Serves (λ fs. resize_file table fs p id n) stores handles stores handles (refusal Estale)
   resize-stale h at mode none = refused-served (λ fs. resize_file table fs p id n) stores handles Estale
       (λ fs s. resize-mode h at mode fs s ∙ on_file-stale stores handles fs s h (resize_on table fs p id n (opened_file stores h)) none)
 
@@ -215,37 +230,45 @@ module _ (table : Rows) (stores : List StoreValue) (handles : AllHandles) (p id 
       ∙ on_file-there stores handles fs s h held.names held.held (resize_on table fs p id n (opened_file stores h)) held.opened held.stands
       ∙ ap (λ (content : Content). change table fs p id (opened_file stores h) held.names held.held (resized content n) (min h.position n) Empty) (sym held.kept.content)
 
+  -- a content that is cut or filled up to a size has that size
+  resized-fine : (h : FileHandle) (f : FileNode) (o : Option Errno) → change_refusal (store_at stores h.tree) f.0 n ≡ o → change_refusal (store_at stores h.tree) f.0 (length (resized (kept_at (store_at stores h.tree) f.0).content n)) ≡ o
+  resized-fine h f o fine = ap (change_refusal (store_at stores h.tree) f.0) (length-resized (kept_at (store_at stores h.tree) f.0).content n) ∙ fine
+
   pub resize-refused : (o : IsOfTable table stores handles) (h : FileHandle) (f : FileNode) (e : Errno) → handle_at (handles_of handles p).files id ≡ Some h → h.file ≡ Some f → h.mode ≡ ReadWrite
-      → change_refusal (store_at stores h.tree) f.0 (length (resized (kept_at (store_at stores h.tree) f.0).content n)) ≡ Some e
-      → IsServed (λ fs. resize_file table fs p id n) stores handles stores handles (refusal e)
+      → change_refusal (store_at stores h.tree) f.0 n ≡ Some e → Serves (λ fs. resize_file table fs p id n) stores handles stores handles (refusal e)
   resize-refused o h f e at is mode refused = refused-served (λ fs. resize_file table fs p id n) stores handles e
       (λ fs s. let held = held-at stores handles p id h f at is fs s in
       let content = resized (kept_at (store_at stores h.tree) f.0).content n in
       let done : FileOutcome = accepted (with_position (with_tree fs h.tree (with_node (tree_in fs h.tree) held.names (file (changed held.held content)))) p id (opened_file stores h) (min h.position n)) Empty in
       resize-change h f at is mode fs s held
       ∙ change-is table stores handles o p id h f at fs held content (min h.position n) Empty
-      ∙ ap (λ (o : Option Errno). refuse_for o done) refused)
+      ∙ ap (λ (o : Option Errno). refuse_for o done) (resized-fine h f (Some e) refused))
+
+  pub resize-goes : (o : IsOfTable table stores handles) (h : FileHandle) (f : FileNode) (v : StoreValue) → handle_at (handles_of handles p).files id ≡ Some h → h.file ≡ Some f → h.mode ≡ ReadWrite
+      → change_refusal (store_at stores h.tree) f.0 n ≡ None → v ≡ changed_store (store_at stores h.tree) f.0 (resized (kept_at (store_at stores h.tree) f.0).content n) → (fs : FileSystem) → Stands stores handles fs
+      → Goes (λ fs. resize_file table fs p id n) (slice_set stores h.tree v) (with_file_slot handles p id (Some (record h { position = min h.position n }))) Empty fs
+  resize-goes o h f v at is mode fine new fs s =
+      let content = resized (kept_at (store_at stores h.tree) f.0).content n in
+      let held = held-at stores handles p id h f at is fs s in
+      change-goes table stores handles o p id h f at (λ fs. resize_file table fs p id n) content (min h.position n) Empty v fs s held (resized-fine h f None fine) new (resize-change h f at is mode fs s held)
 
   pub resize-done : (o : IsOfTable table stores handles) (h : FileHandle) (f : FileNode) (v : StoreValue) → handle_at (handles_of handles p).files id ≡ Some h → h.file ≡ Some f → h.mode ≡ ReadWrite
-      → change_refusal (store_at stores h.tree) f.0 (length (resized (kept_at (store_at stores h.tree) f.0).content n)) ≡ None
-      → v ≡ changed_store (store_at stores h.tree) f.0 (resized (kept_at (store_at stores h.tree) f.0).content n)
-      → IsServed (λ fs. resize_file table fs p id n) stores handles (slice_set stores h.tree v) (with_file_slot handles p id (Some (record h { position = min h.position n }))) (success Empty)
+      → change_refusal (store_at stores h.tree) f.0 n ≡ None → v ≡ changed_store (store_at stores h.tree) f.0 (resized (kept_at (store_at stores h.tree) f.0).content n)
+      → Serves (λ fs. resize_file table fs p id n) stores handles (slice_set stores h.tree v) (with_file_slot handles p id (Some (record h { position = min h.position n }))) (success Empty)
   resize-done o h f v at is mode fine new =
-      let content = resized (kept_at (store_at stores h.tree) f.0).content n in
       accepted-served (λ fs. resize_file table fs p id n) stores handles (slice_set stores h.tree v) (with_file_slot handles p id (Some (record h { position = min h.position n }))) Empty
-      (λ fs s. let held = held-at stores handles p id h f at is fs s in
-      change-goes table stores handles o p id h f at (λ fs. resize_file table fs p id n) content (min h.position n) Empty v fs s held fine new (resize-change h f at is mode fs s held))
-      (change-of_table table stores handles o p id h f at content (min h.position n) v new)
+      (resize-goes o h f v at is mode fine new)
+      (change-of_table table stores handles o p id h f at (resized (kept_at (store_at stores h.tree) f.0).content n) (min h.position n) v new)
 
 -- ---- SYNC_FILE
 
 module _ (stores : List StoreValue) (handles : AllHandles) (p id : ℕ) where
-  pub sync-bad_id : handle_at (handles_of handles p).files id ≡ None → IsServed (λ fs. sync_file fs p id) stores handles stores handles (refusal Ebadf)
+  pub sync-bad_id : handle_at (handles_of handles p).files id ≡ None → Serves (λ fs. sync_file fs p id) stores handles stores handles (refusal Ebadf)
   unfolding sync_file sync_rest sync_on
   sync-bad_id none = refused-served (λ fs. sync_file fs p id) stores handles Ebadf
       (λ fs s. on_file_handle-absent stores handles fs s p id (sync_rest fs) none)
 
-  pub sync-readonly : (h : FileHandle) → handle_at (handles_of handles p).files id ≡ Some h → h.mode ≡ ReadOnly → IsServed (λ fs. sync_file fs p id) stores handles stores handles (refusal Eacces)
+  pub sync-readonly : (h : FileHandle) → handle_at (handles_of handles p).files id ≡ Some h → h.mode ≡ ReadOnly → Serves (λ fs. sync_file fs p id) stores handles stores handles (refusal Eacces)
   unfolding sync_file sync_rest sync_on
   sync-readonly h at mode = refused-served (λ fs. sync_file fs p id) stores handles Eacces
       (λ fs s. on_file_handle-there stores handles fs s p id h (sync_rest fs) at
@@ -259,12 +282,12 @@ module _ (stores : List StoreValue) (handles : AllHandles) (p id : ℕ) where
       on_file_handle-there stores handles fs s p id h (sync_rest fs) at
       ∙ ap (λ (b : Bool). refuse_if b Eacces (on_file fs (opened_file stores h) (sync_on fs (opened_file stores h)))) (writes h mode)
 
-  pub sync-stale : (h : FileHandle) → handle_at (handles_of handles p).files id ≡ Some h → h.mode ≡ ReadWrite → h.file ≡ None → IsServed (λ fs. sync_file fs p id) stores handles stores handles (refusal Estale)
+  pub sync-stale : (h : FileHandle) → handle_at (handles_of handles p).files id ≡ Some h → h.mode ≡ ReadWrite → h.file ≡ None → Serves (λ fs. sync_file fs p id) stores handles stores handles (refusal Estale)
   sync-stale h at mode none = refused-served (λ fs. sync_file fs p id) stores handles Estale
       (λ fs s. sync-mode h at mode fs s ∙ on_file-stale stores handles fs s h (sync_on fs (opened_file stores h)) none)
 
   pub sync-done : (h : FileHandle) (f : FileNode) (v : StoreValue) → handle_at (handles_of handles p).files id ≡ Some h → h.file ≡ Some f → h.mode ≡ ReadWrite → v ≡ synchronised_store (store_at stores h.tree) f.0
-      → IsServed (λ fs. sync_file fs p id) stores handles (slice_set stores h.tree v) handles (success Empty)
+      → Serves (λ fs. sync_file fs p id) stores handles (slice_set stores h.tree v) handles (success Empty)
   unfolding sync_on
   sync-done h f v at is mode new = accepted-served (λ fs. sync_file fs p id) stores handles (slice_set stores h.tree v) handles Empty
       (λ fs s. let held = held-at stores handles p id h f at is fs s in

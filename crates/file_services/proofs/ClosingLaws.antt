@@ -11,16 +11,16 @@ use Rattle.open_handles.specs.NodeHandles.{AllHandles, handles_of, with_file_slo
 use Rattle.store_model.specs.Stores.{StoreValue}
 use Rattle.store_model.proofs.Systems.{closed-stands, set-of_table}
 use Rattle.store_model.proofs.SystemsWords.{on_file_handle-there, on_file_handle-absent}
-use Rattle.service_parts.specs.Serving.{IsServed}
+use Rattle.service_parts.specs.Serving.{Serves}
 use Rattle.service_parts.proofs.Served.{refused-served, accepted-served}
 
 module _ (stores : List StoreValue) (handles : AllHandles) (p id : ℕ) where
-  pub close-bad_id : handle_at (handles_of handles p).files id ≡ None → IsServed (λ fs. close_file fs p id) stores handles stores handles (refusal Ebadf)
+  pub close-bad_id : handle_at (handles_of handles p).files id ≡ None → Serves (λ fs. close_file fs p id) stores handles stores handles (refusal Ebadf)
   unfolding close_file
   close-bad_id none = refused-served (λ fs. close_file fs p id) stores handles Ebadf
       (λ fs s. on_file_handle-absent stores handles fs s p id (λ handle. accepted (with_file_handle fs p id None) Empty) none)
 
-  pub close-done : (h : FileHandle) → handle_at (handles_of handles p).files id ≡ Some h → IsServed (λ fs. close_file fs p id) stores handles stores (with_file_slot handles p id None) (success Empty)
+  pub close-done : (h : FileHandle) → handle_at (handles_of handles p).files id ≡ Some h → Serves (λ fs. close_file fs p id) stores handles stores (with_file_slot handles p id None) (success Empty)
   unfolding close_file
   close-done h at = accepted-served (λ fs. close_file fs p id) stores handles stores (with_file_slot handles p id None) Empty
       (λ fs s. record {

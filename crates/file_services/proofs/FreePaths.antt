@@ -12,6 +12,9 @@ named : (tree : Tree ℕ) (names : List Name) → standing_at tree names ≡ Non
 named tree [] nothing = absurd (let e : ◌≡◌ {A = Option (Node ℕ)} (Some directory) None = nothing in cc)
 named tree (name ∷ names) nothing = omega arith
 
+pub free-named : (v : TreeValue) (names : List Name) (parent : DirNode) → IsSpotAt v names (spot.Free parent) → 1 ≤ length names
+free-named v names parent free = named v.nodes names free.1
+
 -- its last name in its parent is the whole path
 pub path-of-free : (v : TreeValue) (names : List Name) (parent : DirNode) (name : Name) → IsSpotAt v names (spot.Free parent) → slice_get names (length names - 1) ≡ Some name → path_in v parent.0 name ≡ names
 path-of-free v names parent name free last = free-path v names parent.0 name free.0 last (named v.nodes names free.1)

@@ -1,7 +1,7 @@
 -- The file that a handle holds, where stores and handles stand for a file system.
-use Rattle.std.proofs.Common.{◌≡◌, ℕ, ◌<◌, List, Option, Some, ◌∙◌, ap, subst, length}
-use Rattle.std.specs.Prelude.{IsSome, IfSome, is_some, slice_set}
-use Rattle.std.proofs.lemmas.List.{set-get_or}
+use Rattle.std.proofs.Common.{◌≡◌, ℕ, ◌<◌, ◌≤◌, List, Option, Some, ◌∙◌, ap, subst, arith, length}
+use Rattle.std.specs.Prelude.{IsSome, IfSome, is_some}
+use Rattle.apex_types.specs.declared.calls.OpenMode.TheVariants.{ReadWrite}
 use Rattle.apex_types.specs.declared.fields.FileHandle.{FileHandle}
 use Rattle.apex_types.specs.declared.numbers.FileNode.{FileNode}
 use Rattle.apex_model.specs.Files.{File}
@@ -9,16 +9,23 @@ use Rattle.apex_model.specs.FileSystem.{FileSystem, tree_in, on_file_handle, on_
 use Rattle.apex_model.specs.Handles.{OpenedFile, handle_at}
 use Rattle.apex_model.specs.Outcomes.{Outcome}
 use Rattle.apex_model.specs.Trees.{Name, file, standing_at}
-use Rattle.file_tree.specs.Entries.{slot}
+use Rattle.file_tree.specs.Entries.{TreeValue, slot}
 use Rattle.open_handles.specs.NodeHandles.{AllHandles, handles_of, with_file_slot}
+use Rattle.rig_core.specs.Outside.{Outside}
 use Rattle.store_model.specs.Standing.{IsFile, IsTree}
 use Rattle.store_model.specs.Stores.{StoreValue, kept_at, charge_at}
-use Rattle.store_model.specs.Systems.{Stands, no_store, store_at, file_path, opened_file}
+use Rattle.store_model.specs.Systems.{Stands, store_at, file_path, opened_file}
 use Rattle.store_model.proofs.Names.{file-found}
 use Rattle.store_model.proofs.Systems.{store-there}
+use Rattle.store_model.proofs.SystemsFiles.{position-few, position-within}
 use Rattle.store_model.proofs.SystemsHeld.{held-file}
 use Rattle.store_model.proofs.SystemsWords.{on_file_handle-there, on_file-there}
-use Rattle.service_parts.specs.Serving.{AreStanding}
+use Rattle.tree_store.specs.Calls.{AtTree}
+use Rattle.tree_store.specs.Naming.{HasFile}
+use Rattle.tree_store.specs.Stored.{size_at}
+use Rattle.tree_store.specs.declared.store.TreeStore.{TreeStore}
+use Rattle.service_parts.specs.Serving.{AreInService, AreSeen, AreStanding}
+use Rattle.service_parts.proofs.Held.{all_outlined, at_tree, outline_at, stores_long}
 
 -- what a handle with a file has in a file system
 pub record Held (stores : List StoreValue) (fs : FileSystem) (h : FileHandle) (f : FileNode) : Type 0 where
@@ -69,6 +76,24 @@ pub moved-handles : (handles new : AllHandles) (p id position : ℕ) (h : FileHa
 moved-handles handles new p id position h moved at =
     let P : Option FileHandle → Type 0 = λ o. IfSome o (λ h. new ≡ with_file_slot handles p id (Some (record h { position = position }))) in subst P at moved
 
--- with the store in its place that was there, the stores are the same
-pub same-stores : (stores : List StoreValue) (t : ℕ) (v : StoreValue) → v ≡ store_at stores t → slice_set stores t v ≡ stores
-same-stores stores t v is = ap (slice_set stores t) is ∙ set-get_or stores t no_store
+-- ---- as stored trees see it
+
+module _ (trees : List TreeStore) (handles : AllHandles) (p id : ℕ) (h : FileHandle) (f : FileNode) (at : handle_at (handles_of handles p).files id ≡ Some h) (is : h.file ≡ Some f) where
+  module _ (seen : AreSeen trees handles) where
+    pub held-tree : h.tree < length trees
+    held-tree = let long = stores_long trees seen.0 seen.1 in let low = held-within seen.0 handles p id h f at is seen.2 in omega (arith, long, low)
+
+    pub held-in_use : AtTree trees h.tree (λ store. HasFile store f.0)
+    held-in_use = at_tree trees seen.0 seen.1 (λ (v : TreeValue). IsSome (slot v.files f.0)) h.tree (held-used seen.0 handles p id h f at is seen.2)
+
+  -- the position of a handle that may write is within its file
+  pub held-position : (V : Type 0) (o : Outside) → AreInService V o trees handles → h.mode ≡ ReadWrite → AtTree trees h.tree (λ store. h.position ≤ size_at store f.0)
+  held-position V o ready writes store there =
+      let over = ready.serving.1 in
+      subst (λ n. h.position ≤ n) ((outline_at trees over.0 (all_outlined V o trees over.0 over.1) h.tree store there).sizes f.0)
+      (position-within over.0 handles ready.serving.0 over.2 ready.table ready.serving.2 p id h f at is writes)
+
+-- and that of any handle within the largest file
+pub held-low : (V : Type 0) (o : Outside) (trees : List TreeStore) (handles : AllHandles) (p id : ℕ) (h : FileHandle) → handle_at (handles_of handles p).files id ≡ Some h → AreInService V o trees handles → h.position ≤ 1048576
+held-low V o trees handles p id h at ready =
+    let over = ready.serving.1 in position-few over.0 handles ready.serving.0 over.2 ready.table ready.serving.2 p id h at

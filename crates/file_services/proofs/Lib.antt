@@ -1,4 +1,3 @@
-pub mod Carried
 pub mod ChangingLaws
 pub mod ClosingLaws
 pub mod FreePaths

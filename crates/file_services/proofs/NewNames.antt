@@ -1,12 +1,8 @@
--- The path of a new name, and the new file there in the words of the store that makes it.
-use Rattle.std.proofs.Common.{◌≡◌, ℕ, ◌+◌, ◌-◌, ◌<◌, ◌≤◌, true, false, List, [], ◌∷◌, ◌++◌, Option, Some, None, refl, sym, ◌∙◌, ap, subst, length, take, get_or, arith, zero, suc}
-use Rattle.std.specs.Prelude.{Result, Ok, Err, IfOk, nat_le, slice_get, slice_set, unwrap_or}
+-- The path of a new name, and the new file there in the words of the stored tree that makes it.
+use Rattle.std.proofs.Common.{◌≡◌, ℕ, ◌-◌, ◌<◌, ◌≤◌, true, false, List, [], ◌∷◌, Option, Some, None, refl, sym, ◌∙◌, ap, subst, length, get_or, arith, zero, suc}
+use Rattle.std.specs.Prelude.{IsSome, is_some, nat_le, slice_get, slice_set}
 use Rattle.std.specs.Option.{option_map_or}
 use Rattle.std.proofs.lemmas.Bool.Decides.{nat_tests}
-use Rattle.std.proofs.lemmas.Grind.{take_at_read}
-use Rattle.std.proofs.lemmas.List.{set-get_or}
-use Rattle.std.proofs.lemmas.Option.{unwrap_or-slice_get}
-use Rattle.std.proofs.Math.Seq.{take-length}
 use Rattle.apex_types.specs.Rows.{Rows}
 use Rattle.apex_types.specs.declared.calls.OpenMode.TheVariants.{ReadWrite}
 use Rattle.apex_types.specs.declared.codes.Errno.{Errno}
@@ -19,55 +15,30 @@ use Rattle.apex_types.specs.declared.replies.Values.TheVariants.{Number}
 use Rattle.apex_types.specs.declared.rows.TreeRow.{TreeRow}
 use Rattle.apex_model.specs.Handles.{free_from, least_free}
 use Rattle.apex_model.specs.Outcomes.{success, refusal}
-use Rattle.apex_model.specs.Trees.{Name, Node, directory, Tree, standing_at}
-use Rattle.apex_model.specs.Validity.{parent_of}
-use Rattle.file_tree.specs.Entries.{TreeValue, path_in, with_file, IsSpotAt}
+use Rattle.apex_model.specs.Trees.{Name, standing_at}
+use Rattle.file_tree.specs.Entries.{TreeValue, path_in, way_of, with_file, IsSpotAt}
 use Rattle.open_handles.specs.NodeHandles.{AllHandles, handles_of, with_file_slot}
 use Rattle.open_handles.specs.Nodes as nodes
-use Rattle.store_model.specs.Stores.{StoreValue, with_names, IsSound}
-use Rattle.store_model.specs.Systems.{IsOfTable, store_at, no_store}
+use Rattle.store_model.specs.Stores.{StoreValue, with_names}
+use Rattle.store_model.specs.Systems.{IsOfTable, store_at}
 use Rattle.store_model.proofs.Systems.{file_limit-is, stores-long}
-use Rattle.memory_store.specs.Refusals.{IsRefusal}
-use Rattle.memory_store.specs.declared.refusal.StoreRefusal.{StoreRefusal}
-use Rattle.memory_store.specs.declared.refusal.StoreRefusal.TheVariants.{Refused}
-use Rattle.service_parts.specs.Serving.{IsServed}
+use Rattle.tree_store.specs.Answers.{file_refusal, made_file}
+use Rattle.service_parts.specs.Serving.{Serves}
 use Rattle.service_parts.proofs.Served.{served-as}
+use Rattle.file_services.proofs.FreePaths.{path-of-free}
 use Rattle.file_services.proofs.MakingLaws.{make_step, make-none_free, make-done}
-
--- what holds of a value that came out, from what is known of it
-pub if_ok : {T E : Type 0} (r : Result T E) (P Q : T → Type 0) → ((x : T) → P x → Q x) → IfOk r P → IfOk r Q
-if_ok (Ok x) P Q h p = h x p
-if_ok (Err e) P Q h p = p
 
 -- ---- the path of a new name
 
--- something stands at the root, so that a path with nothing at its end has a name
-named : (nodes : Tree ℕ) (names : List Name) → standing_at nodes names ≡ None → 1 ≤ length names
-named nodes [] none = absurd (let w : ◌≡◌ {A = Option (Node ℕ)} (Some directory) None = none in cc)
-named nodes (name ∷ names) none = omega arith
+-- the directory is in use, the path has few names, and nothing stands there
+pub directory-used : (v : TreeValue) (parent : DirNode) (names : List Name) → IsSpotAt v names (spot.Free parent) → IsSome (way_of v parent.0)
+directory-used v parent names free = ap is_some free.0
 
--- the names before the last one, and that
-pub last-name : (names : List Name) (name : Name) → 1 ≤ length names → slice_get names (length names - 1) ≡ Some name → parent_of names ++ name ∷ [] ≡ names
-last-name names name some last =
-    let k = length names - 1 in
-    let low : k < length names = omega (arith, some) in
-    let at : get_or names k [] ≡ name = sym (unwrap_or-slice_get names k []) ∙ ap (λ (o : Option Name). unwrap_or o []) last in
-    let long : k + 1 ≡ length names = omega (arith, some) in
-    ap (λ (x : Name). take k names ++ x ∷ []) (sym at)
-    ∙ sym (take_at_read names k [] low).1
-    ∙ ap (λ (n : ℕ). take n names) long
-    ∙ take-length names
+pub path-shallow : (v : TreeValue) (parent : DirNode) (names : List Name) (name : Name) → IsSpotAt v names (spot.Free parent) → slice_get names (length names - 1) ≡ Some name → length names ≤ 6 → length (path_in v parent.0 name) ≤ 6
+path-shallow v parent names name free last few = subst (λ (path : List Name). length path ≤ 6) (sym (path-of-free v names parent name free last)) few
 
--- the path of the last name in the directory that a walk came to
-pub path-same : (v : TreeValue) (parent : DirNode) (names : List Name) (name : Name) → IsSpotAt v names (spot.Free parent) → slice_get names (length names - 1) ≡ Some name → path_in v parent.0 name ≡ names
-path-same v parent names name free last = ap (λ (o : Option (List Name)). unwrap_or o [] ++ name ∷ []) free.0 ∙ last-name names name (named v.nodes names free.1) last
-
--- nothing stands there
-pub path-free : (v w : StoreValue) (parent : DirNode) (names : List Name) (name : Name) → w ≡ v → IsSpotAt v.tree names (spot.Free parent) → slice_get names (length names - 1) ≡ Some name
-    → standing_at w.tree.nodes (path_in w.tree parent.0 name) ≡ None
-path-free v w parent names name is free last =
-    let P : StoreValue → Type 0 = λ x. standing_at x.tree.nodes (path_in x.tree parent.0 name) ≡ None in
-    subst P (sym is) (ap (standing_at v.tree.nodes) (path-same v.tree parent names name free last) ∙ free.1)
+pub path-free : (v : TreeValue) (parent : DirNode) (names : List Name) (name : Name) → IsSpotAt v names (spot.Free parent) → slice_get names (length names - 1) ≡ Some name → standing_at v.nodes (path_in v parent.0 name) ≡ None
+path-free v parent names name free last = ap (standing_at v.nodes) (path-of-free v names parent name free last) ∙ free.1
 
 -- ---- room for a file
 
@@ -92,28 +63,58 @@ room-test a b limit files x y lt = grind (arith, nat_tests)
 
 -- ---- what the store answers
 
-module _ (table : Rows) (stores : List StoreValue) (handles : AllHandles) (p t : ℕ) (names : List Name) (within : t < length stores) (o : IsOfTable table stores handles) (parent : DirNode)
-    (free : IsSpotAt (store_at stores t).tree names (spot.Free parent)) (w v : StoreValue) (is : w ≡ store_at stores t) where
-  pub make-refused : (r : StoreRefusal) (e : Errno) (told : Reply) → r ≡ Refused e → IsRefusal Enospc (free_from 0 w.tree.files ≡ None) w r v → told ≡ refusal e
-      → IsServed (make_step table p t names) stores handles (slice_set stores t v) handles told
-  make-refused r e told refused full told_is =
-      let P : StoreRefusal → Type 0 = λ x. IsRefusal Enospc (free_from 0 w.tree.files ≡ None) w x v in
-      let here : (e ≡ Enospc) × (free_from 0 w.tree.files ≡ None) × (v ≡ w) = subst P refused full in
-      let none : free_from 0 (store_at stores t).tree.files ≡ None = ap (λ (x : StoreValue). free_from 0 x.tree.files) (sym is) ∙ here.1 in
-      served-as (make_step table p t names) stores handles stores handles (refusal Enospc) (slice_set stores t v) handles told
-      (ap (slice_set stores t) (here.2 ∙ is) ∙ set-get_or stores t no_store) refl (told_is ∙ ap (λ (x : Errno). refusal x) here.0)
-      (make-none_free table stores handles p t names within o parent free none)
+file-found : StoreValue → List Name → Option ℕ → StoreValue
+file-found v path None = v
+file-found v path (Some f) = with_names v (with_file v.tree f path)
 
-  pub make-opened : (f : FileNode) (id : ℕ) (name : Name) (new_handles : AllHandles) (told : Reply) → slice_get names (length names - 1) ≡ Some name → free_from 0 w.tree.files ≡ Some f.0
-      → v ≡ with_names w (with_file w.tree f.0 (path_in w.tree parent.0 name)) → IsSound v → least_free (handles_of handles p).files ≡ Some id
-      → new_handles ≡ with_file_slot handles p id (Some (nodes.opened_file t f ReadWrite)) → told ≡ success (Number id)
-      → IsServed (make_step table p t names) stores handles (slice_set stores t v) new_handles told
-  make-opened f id name new_handles told last first made sound number handles_are told_is =
-      let old = store_at stores t in
-      let least : free_from 0 old.tree.files ≡ Some f.0 = ap (λ (x : StoreValue). free_from 0 x.tree.files) (sym is) ∙ first in
-      let new : v ≡ with_names old (with_file old.tree f.0 names)
-      = made ∙ ap (λ (x : StoreValue). with_names x (with_file x.tree f.0 (path_in x.tree parent.0 name))) is
-      ∙ ap (λ (path : List Name). with_names old (with_file old.tree f.0 path)) (path-same old.tree parent names name free last) in
-      served-as (make_step table p t names) stores handles (slice_set stores t v) (with_file_slot handles p id (Some (nodes.opened_file t f ReadWrite))) (success (Number id))
-      (slice_set stores t v) new_handles told refl handles_are told_is
-      (make-done table stores handles p t names within o parent free f id v least free.1 new sound number)
+refused-by : Option ℕ → Option Errno
+refused-by None = Some Enospc
+refused-by (Some f) = None
+
+full : (o : Option ℕ) (e : Errno) → refused-by o ≡ Some e → (o ≡ None) × (e ≡ Enospc)
+unfolding refused-by
+full None e is = (refl, let same : Enospc ≡ e = cc in sym same)
+full (Some f) e is = absurd (let wrong : ◌≡◌ {A = Option Errno} None (Some e) = is in cc)
+
+room : (o : Option ℕ) → refused-by o ≡ None → (f : ℕ) × (o ≡ Some f)
+unfolding refused-by
+room None is = absurd (let wrong : ◌≡◌ {A = Option Errno} (Some Enospc) None = is in cc)
+room (Some f) is = (f, refl)
+
+-- it is refused exactly where all entries for files are used
+pub file-full : (v : StoreValue) (e : Errno) → file_refusal v ≡ Some e → (free_from 0 v.tree.files ≡ None) × (e ≡ Enospc)
+unfolding refused-by
+file-full v e refused = full (free_from 0 v.tree.files) e refused
+
+pub file-room : (v : StoreValue) → file_refusal v ≡ None → (f : ℕ) × (free_from 0 v.tree.files ≡ Some f)
+unfolding refused-by
+file-room v fine = room (free_from 0 v.tree.files) fine
+
+-- the word of the store is a new file at the path
+made-is : (v : StoreValue) (parent : DirNode) (names : List Name) (name : Name) (f : ℕ) → IsSpotAt v.tree names (spot.Free parent) → slice_get names (length names - 1) ≡ Some name → free_from 0 v.tree.files ≡ Some f
+    → made_file v parent.0 name ≡ with_names v (with_file v.tree f names)
+unfolding file-found
+made-is v parent names name f free last least =
+    ap (file-found v (path_in v.tree parent.0 name)) least ∙ ap (λ (path : List Name). with_names v (with_file v.tree f path)) (path-of-free v.tree names parent name free last)
+
+module _ (table : Rows) (stores : List StoreValue) (handles : AllHandles) (p t : ℕ) (names : List Name) (within : t < length stores) (o : IsOfTable table stores handles) (parent : DirNode)
+    (free : IsSpotAt (store_at stores t).tree names (spot.Free parent)) where
+  pub make-refused : (e : Errno) (told : Reply) → file_refusal (store_at stores t) ≡ Some e → told ≡ refusal e → Serves (make_step table p t names) stores handles stores handles told
+  make-refused e told refused told_is =
+      let full = file-full (store_at stores t) e refused in
+      served-as (make_step table p t names) stores handles stores handles (refusal Enospc) stores handles told refl refl (told_is ∙ ap (λ (x : Errno). refusal x) full.1)
+      (make-none_free table stores handles p t names within o parent free full.0)
+
+  module _ (name : Name) (last : slice_get names (length names - 1) ≡ Some name) (few : length names ≤ 6) (long : length (store_at stores t).tree.stored ≡ length (store_at stores t).tree.files) where
+    pub make-opened : (f : FileNode) (id : ℕ) → free_from 0 (store_at stores t).tree.files ≡ Some f.0 → least_free (handles_of handles p).files ≡ Some id
+        → Serves (make_step table p t names) stores handles (slice_set stores t (made_file (store_at stores t) parent.0 name)) (with_file_slot handles p id (Some (nodes.opened_file t f ReadWrite))) (success (Number id))
+    make-opened f id least number =
+        make-done table stores handles p t names within o parent free f id (made_file (store_at stores t) parent.0 name) least few long (made-is (store_at stores t) parent names name f.0 free last least) number
+
+    -- where nothing speaks against it
+    pub make-serves : file_refusal (store_at stores t) ≡ None → (id : ℕ) → least_free (handles_of handles p).files ≡ Some id
+        → (new_handles : AllHandles) × (told : Reply) × Serves (make_step table p t names) stores handles (slice_set stores t (made_file (store_at stores t) parent.0 name)) new_handles told
+    make-serves fine id number =
+        let f = file-room (store_at stores t) fine in
+        let node : FileNode = record { 0 = f.0 } in
+        (with_file_slot handles p id (Some (nodes.opened_file t node ReadWrite)), success (Number id), make-opened node id f.1 number)

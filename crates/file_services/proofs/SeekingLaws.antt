@@ -17,7 +17,7 @@ use Rattle.store_model.specs.Stores.{StoreValue, kept_at}
 use Rattle.store_model.specs.Systems.{Stands, store_at, opened_file}
 use Rattle.store_model.proofs.Systems.{moved-stands, set-of_table}
 use Rattle.store_model.proofs.SystemsWords.{on_file_handle-there, on_file_handle-absent, on_file-stale}
-use Rattle.service_parts.specs.Serving.{IsServed}
+use Rattle.service_parts.specs.Serving.{Serves}
 use Rattle.service_parts.proofs.Served.{refused-served, accepted-served}
 use Rattle.file_services.proofs.Held.{held-at, on_held}
 
@@ -30,12 +30,12 @@ seek_rest fs p id offset whence handle names f =
     given (within_size (size f) (offset +ℤ pos (base whence handle.position (size f)))) Einval (seek_to fs p id handle)
 
 module _ (stores : List StoreValue) (handles : AllHandles) (p id : ℕ) (offset : ℤ) (whence : Whence) where
-  pub seek-bad_id : handle_at (handles_of handles p).files id ≡ None → IsServed (λ fs. seek_file fs p id offset whence) stores handles stores handles (refusal Ebadf)
+  pub seek-bad_id : handle_at (handles_of handles p).files id ≡ None → Serves (λ fs. seek_file fs p id offset whence) stores handles stores handles (refusal Ebadf)
   unfolding seek_file seek_rest seek_to
   seek-bad_id none = refused-served (λ fs. seek_file fs p id offset whence) stores handles Ebadf
       (λ fs s. on_file_handle-absent stores handles fs s p id (λ handle. on_file fs handle (seek_rest fs p id offset whence handle)) none)
 
-  pub seek-stale : (h : FileHandle) → handle_at (handles_of handles p).files id ≡ Some h → h.file ≡ None → IsServed (λ fs. seek_file fs p id offset whence) stores handles stores handles (refusal Estale)
+  pub seek-stale : (h : FileHandle) → handle_at (handles_of handles p).files id ≡ Some h → h.file ≡ None → Serves (λ fs. seek_file fs p id offset whence) stores handles stores handles (refusal Estale)
   unfolding seek_file seek_rest seek_to
   seek-stale h at none = refused-served (λ fs. seek_file fs p id offset whence) stores handles Estale
       (λ fs s. on_file_handle-there stores handles fs s p id h (λ handle. on_file fs handle (seek_rest fs p id offset whence handle)) at
@@ -55,12 +55,12 @@ module _ (stores : List StoreValue) (handles : AllHandles) (p id : ℕ) (offset 
 
   pub seek-outside : (h : FileHandle) (f : FileNode) (n : ℕ) → handle_at (handles_of handles p).files id ≡ Some h → h.file ≡ Some f
       → n ≡ length (kept_at (store_at stores h.tree) f.0).content → within_size n (offset +ℤ pos (base whence h.position n)) ≡ None
-      → IsServed (λ fs. seek_file fs p id offset whence) stores handles stores handles (refusal Einval)
+      → Serves (λ fs. seek_file fs p id offset whence) stores handles stores handles (refusal Einval)
   seek-outside h f n at is sized none = refused-served (λ fs. seek_file fs p id offset whence) stores handles Einval (seek-rest h f n None at is sized none)
 
   pub seek-done : (h : FileHandle) (f : FileNode) (n target : ℕ) → handle_at (handles_of handles p).files id ≡ Some h → h.file ≡ Some f
       → n ≡ length (kept_at (store_at stores h.tree) f.0).content → within_size n (offset +ℤ pos (base whence h.position n)) ≡ Some target
-      → IsServed (λ fs. seek_file fs p id offset whence) stores handles stores (with_file_slot handles p id (Some (record h { position = target }))) (success (Number target))
+      → Serves (λ fs. seek_file fs p id offset whence) stores handles stores (with_file_slot handles p id (Some (record h { position = target }))) (success (Number target))
   unfolding seek_to
   seek-done h f n target at is sized found =
       accepted-served (λ fs. seek_file fs p id offset whence) stores handles stores (with_file_slot handles p id (Some (record h { position = target }))) (Number target)

@@ -18,7 +18,7 @@ use Rattle.store_model.specs.Stores.{StoreValue, total}
 use Rattle.store_model.specs.Systems.{store_at}
 use Rattle.store_model.proofs.Names.{file_count-same}
 use Rattle.store_model.proofs.Systems.{store-there}
-use Rattle.service_parts.specs.Serving.{IsServed}
+use Rattle.service_parts.specs.Serving.{Serves}
 use Rattle.service_parts.proofs.PathWords.{at_place-err, at_place-ok}
 use Rattle.service_parts.proofs.Served.{refused-served, accepted-served}
 
@@ -36,11 +36,11 @@ at-root [] n long none = refl
 at-root (name ∷ names) n long none = absurd (let w : 0 ≡ suc (length names) = sym none ∙ long in omega arith)
 
 module _ (table : Rows) (stores : List StoreValue) (handles : AllHandles) (p : ℕ) (path : List ℕ) where
-  pub volume-err : (e : Errno) → place_of table owner_or_reader p path ≡ Err e → IsServed (λ fs. get_volume_status table fs p path) stores handles stores handles (refusal e)
+  pub volume-err : (e : Errno) → place_of table owner_or_reader p path ≡ Err e → Serves (λ fs. get_volume_status table fs p path) stores handles stores handles (refusal e)
   unfolding get_volume_status volume_rest
   volume-err e is = refused-served (λ fs. get_volume_status table fs p path) stores handles e (λ fs s. at_place-err table owner_or_reader p path e (volume_rest table fs) is)
 
-  pub volume-below : (place : Place) (n : ℕ) → place_of table owner_or_reader p path ≡ Ok place → n ≡ length place.names → (n ≡ 0 → ⊥) → IsServed (λ fs. get_volume_status table fs p path) stores handles stores handles (refusal Einval)
+  pub volume-below : (place : Place) (n : ℕ) → place_of table owner_or_reader p path ≡ Ok place → n ≡ length place.names → (n ≡ 0 → ⊥) → Serves (λ fs. get_volume_status table fs p path) stores handles stores handles (refusal Einval)
   unfolding get_volume_status volume_rest
   volume-below place n is long some = refused-served (λ fs. get_volume_status table fs p path) stores handles Einval
       (λ fs s. at_place-ok table owner_or_reader p path place (volume_rest table fs) is
@@ -48,7 +48,7 @@ module _ (table : Rows) (stores : List StoreValue) (handles : AllHandles) (p : �
 
   pub volume-done : (place : Place) (n quota charge files : ℕ) → place_of table owner_or_reader p path ≡ Ok place → n ≡ length place.names → n ≡ 0 → place.tree < length stores
       → quota ≡ quota_of table place.tree → charge ≡ total (store_at stores place.tree).charges → files ≡ file_count (store_at stores place.tree).tree.nodes
-      → IsServed (λ fs. get_volume_status table fs p path) stores handles stores handles (success (VolumeStatus quota charge files))
+      → Serves (λ fs. get_volume_status table fs p path) stores handles stores handles (success (VolumeStatus quota charge files))
   unfolding get_volume_status volume_rest
   volume-done place n quota charge files is long none within q c k = accepted-served (λ fs. get_volume_status table fs p path) stores handles stores handles (VolumeStatus quota charge files)
       (λ fs s.

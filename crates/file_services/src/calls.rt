@@ -1,12 +1,11 @@
 // The file calls.
-ghost use Rattle.std.specs.Prelude.{◌≡◌, ◌<◌, length, IfOk, IfErr, OnOk};
+ghost use Rattle.std.specs.Prelude.{◌≡◌, ◌<◌, length, map, OnOk};
 ghost use Rattle.apex_model.specs.Accepted.{IsAccepted};
+ghost use Rattle.apex_model.specs.FailedReads.{reads_content};
 ghost use Rattle.apex_model.specs.FileStep.{file_service, file_step};
-ghost use Rattle.apex_model.specs.FileSystem.{FileSystem};
-ghost use Rattle.apex_model.specs.Outcomes.{reply_of, state_after};
-ghost use Rattle.store_model.specs.Systems.{Stands, IsOfTable, IsServing};
-ghost use Rattle.service_parts.specs.Serving.{IsServed};
-ghost use Rattle.service_parts.specs.Told.{IsTellable};
+ghost use Rattle.rig_core.specs.Windows.{AreLaidOut};
+ghost use Rattle.service_parts.specs.Serving.{AreInService, IsServed, ReadsFailed};
+ghost use Rattle.tree_store.specs.Serving.{AreOfTable, AreServing, AreStored, sites_of, window_of};
 
 use crate::changing::{resize_file, sync_file, write_file};
 use crate::closing::close_file;
@@ -17,11 +16,11 @@ use crate::removing::remove_file;
 use crate::renaming::rename_file;
 use crate::seeking::seek_file;
 use crate::volumes::get_volume_status;
-use apex_types::{Errno, FileCall, PartitionId, Reply, StepFault, Table};
-use memory_store::Trees;
+use apex_types::{Errno, FileCall, PartitionId, Reply, Table};
 use open_handles::Handles;
-use rig_core::Rig;
+use rig_core::{DeviceFault, Rig};
 use service_parts::refusal;
+use tree_store::Trees;
 
 /// Carries out a file call of a partition that is ready for one.
 fn serve<R: Rig>(
@@ -31,14 +30,14 @@ fn serve<R: Rig>(
     rig: &mut R,
     p: PartitionId,
     call: &FileCall,
-) -> Result<Reply, StepFault>
+) -> Result<Reply, DeviceFault>
     requires accepted { IsAccepted table.now }
     requires caller { p.0 < length handles.old }
-    requires of_table { IsOfTable table.now trees.old handles.old }
-    requires valid { IsServing table.now trees.old handles.old }
-    ensures served { IfOk result (IsServed (λ fs. file_service table.now fs p.0 call.now) trees.old handles.old trees.new handles.new) }
-    ensures fault { IfErr result (λ fault. fault ≡ StepFault.Memory) }
-    ensures rig { rig.new ≡ rig.old }
+    requires of_table { AreOfTable table.now trees.old handles.old }
+    requires serving { AreInService R.tells_view (R.state rig.old) trees.old handles.old }
+    ensures { IsServed R.tells_view (λ fs. file_service table.now fs p.0 call.now)
+        (ReadsFailed (reads_content call.now) (R.state rig.old) (R.state rig.new)) 52 3
+        trees.old trees.new handles.old handles.new (R.state rig.old) (R.state rig.new) result }
 {
     match call {
         FileCall::OpenNewFile { path } => {
@@ -48,7 +47,7 @@ fn serve<R: Rig>(
             Ok(open_file(table, trees, handles, p, path.bytes(), *mode))
         }
         FileCall::CloseFile { id } => Ok(close_file(handles, p, *id)),
-        FileCall::ReadFile { id, length } => read_file(trees, handles, rig, p, *id, *length),
+        FileCall::ReadFile { id, length } => Ok(read_file(trees, handles, rig, p, *id, *length)),
         FileCall::WriteFile { id, bytes } => {
             write_file(trees, handles, rig, p, *id, bytes.bytes())
         }
@@ -74,7 +73,9 @@ fn serve<R: Rig>(
     }
 }
 
-/// Carries out a file call of a partition, or refuses it with EPERM where the partition isn't ready for one.
+/// Carries out a file call of a partition, or refuses it with EPERM where the partition isn't ready for one. A read of a
+/// content that failed is told as EIO, and changes nothing; the fault of a write or sync is an error, and the trees are of
+/// no use behind it.
 pub fn file_call<R: Rig>(
     table: &Table,
     trees: &mut Trees,
@@ -83,18 +84,19 @@ pub fn file_call<R: Rig>(
     p: PartitionId,
     ready: bool,
     call: &FileCall,
-) -> Result<Reply, StepFault>
+) -> Result<Reply, DeviceFault>
     requires accepted { IsAccepted table.now }
     requires caller { p.0 < length table.now.partitions }
-    requires of_table { IsOfTable table.now trees.old handles.old }
-    requires valid { IsServing table.now trees.old handles.old }
-    ensures of_table { OnOk result (IsOfTable table.now trees.new handles.new) }
-    ensures valid { OnOk result (IsServing table.now trees.new handles.new) }
-    ensures reply { IfOk result (λ reply. (fs : FileSystem) → Stands trees.old handles.old fs → reply ≡ reply_of (file_step table.now fs p.0 ready call.now)) }
-    ensures state { OnOk result ((fs : FileSystem) → Stands trees.old handles.old fs → Stands trees.new handles.new (state_after fs (file_step table.now fs p.0 ready call.now))) }
-    ensures fault { IfErr result (λ fault. fault ≡ StepFault.Memory) }
-    ensures rig { rig.new ≡ rig.old }
-    ensures tellable { IfOk result IsTellable }
+    requires of_table { AreOfTable table.now trees.old handles.old }
+    requires laid_out { AreLaidOut (map window_of (sites_of trees.old)) (R.state rig.old).size }
+    requires stored { AreStored R.tells_view (R.state rig.old) trees.old }
+    requires serving { AreServing R.tells_view (R.state rig.old) table.now trees.old handles.old }
+    ensures served { IsServed R.tells_view (λ fs. file_step table.now fs p.0 ready call.now)
+        (ReadsFailed (reads_content call.now) (R.state rig.old) (R.state rig.new)) 52 3
+        trees.old trees.new handles.old handles.new (R.state rig.old) (R.state rig.new) result }
+    ensures serving { OnOk result
+        (AreServing R.tells_view (R.state rig.new) table.now trees.new handles.new) }
+    ensures of_table { AreOfTable table.now trees.new handles.new }
 {
     if !ready {
         return Ok(refusal(Errno::Eperm));

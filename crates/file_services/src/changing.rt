@@ -1,17 +1,17 @@
 // Changing files, and making sure of them.
-ghost use Rattle.std.specs.Prelude.{◌≡◌, ◌<◌, ◌≤◌, length, Some, IfOk, IfErr};
+ghost use Rattle.std.specs.Prelude.{◌≡◌, ◌<◌, ◌≤◌, length, true, false, Some};
 ghost use Rattle.apex_types.specs.Rows.{Rows};
 ghost use Rattle.apex_model.specs.FileStep.{write_file as write_step, resize_file as resize_step, sync_file as sync_step};
 ghost use Rattle.apex_model.specs.Handles.{handle_at};
 ghost use Rattle.open_handles.specs.NodeHandles.{handles_of};
-ghost use Rattle.store_model.specs.Systems.{IsOfTable};
-ghost use Rattle.service_parts.specs.Serving.{AreStanding, AreServing, IsServed};
+ghost use Rattle.service_parts.specs.Serving.{AreInService, IsServed, ReadsFailed};
+ghost use Rattle.tree_store.specs.Serving.{AreOfTable};
 
-use apex_types::{Errno, FileHandle, FileNode, OpenMode, PartitionId, Reply, StepFault, Values};
-use memory_store::{StoreRefusal, Trees};
+use apex_types::{Errno, FileHandle, FileNode, OpenMode, PartitionId, Reply, Values};
 use open_handles::Handles;
-use rig_core::Rig;
+use rig_core::{DeviceFault, Rig};
 use service_parts::{refusal, success};
+use tree_store::{StoreRefusal, Trees};
 
 /// Puts bytes into the file of a handle, as one change, and moves the handle behind them.
 fn write_through<R: Rig>(
@@ -23,28 +23,27 @@ fn write_through<R: Rig>(
     handle: FileHandle,
     file: FileNode,
     bytes: &[u8],
-) -> Result<Reply, StepFault>
+) -> Result<Reply, DeviceFault>
     requires caller { p.0 < length handles.old }
     requires held { handle_at (handles_of handles.old p.0).files id ≡ Some handle }
     requires has_file { handle.file ≡ Some file }
     requires writes { handle.mode ≡ OpenMode.ReadWrite }
     requires some { 1 ≤ length bytes.now }
     requires few { length bytes.now ≤ 4096 }
-    requires serving { AreServing trees.old handles.old }
-    ensures served { IfOk result (λ reply. (table : Rows) → IsOfTable table trees.old handles.old
-        → IsServed (λ fs. write_step table fs p.0 id bytes.now) trees.old handles.old trees.new handles.new reply) }
-    ensures fault { IfErr result (λ fault. fault ≡ StepFault.Memory) }
-    ensures rig { rig.new ≡ rig.old }
+    requires serving { AreInService R.tells_view (R.state rig.old) trees.old handles.old }
+    ensures { (table : Rows) → AreOfTable table trees.old handles.old
+        → IsServed R.tells_view (λ fs. write_step table fs p.0 id bytes.now)
+        (ReadsFailed true (R.state rig.old) (R.state rig.new)) 52 3
+        trees.old trees.new handles.old handles.new (R.state rig.old) (R.state rig.new) result }
 {
-    let store = trees.get_mut(handle.tree);
-    match store.write(rig, file, handle.position, bytes) {
+    match trees.write(rig, handle.tree, file, handle.position, bytes) {
         Ok(()) => {
             handles.set_position(p, id, handle.position + bytes.len() as u32);
             Ok(success(Values::Number(bytes.len() as u32)))
         }
         Err(StoreRefusal::Refused(errno)) => Ok(refusal(errno)),
-        Err(StoreRefusal::Device) => Err(StepFault::Device),
-        Err(StoreRefusal::Memory) => Err(StepFault::Memory),
+        Err(StoreRefusal::ReadFault) => Ok(refusal(Errno::Eio)),
+        Err(StoreRefusal::Device) => Err(DeviceFault),
     }
 }
 
@@ -56,13 +55,13 @@ pub fn write_file<R: Rig>(
     p: PartitionId,
     id: u32,
     bytes: &[u8],
-) -> Result<Reply, StepFault>
+) -> Result<Reply, DeviceFault>
     requires caller { p.0 < length handles.old }
-    requires serving { AreServing trees.old handles.old }
-    ensures served { IfOk result (λ reply. (table : Rows) → IsOfTable table trees.old handles.old
-        → IsServed (λ fs. write_step table fs p.0 id bytes.now) trees.old handles.old trees.new handles.new reply) }
-    ensures fault { IfErr result (λ fault. fault ≡ StepFault.Memory) }
-    ensures rig { rig.new ≡ rig.old }
+    requires serving { AreInService R.tells_view (R.state rig.old) trees.old handles.old }
+    ensures { (table : Rows) → AreOfTable table trees.old handles.old
+        → IsServed R.tells_view (λ fs. write_step table fs p.0 id bytes.now)
+        (ReadsFailed true (R.state rig.old) (R.state rig.new)) 52 3
+        trees.old trees.new handles.old handles.new (R.state rig.old) (R.state rig.new) result }
 {
     let Some(handle) = handles.file(p, id) else {
         return Ok(refusal(Errno::Ebadf));
@@ -92,26 +91,25 @@ fn resize_through<R: Rig>(
     handle: FileHandle,
     file: FileNode,
     size: u32,
-) -> Result<Reply, StepFault>
+) -> Result<Reply, DeviceFault>
     requires caller { p.0 < length handles.old }
     requires held { handle_at (handles_of handles.old p.0).files id ≡ Some handle }
     requires has_file { handle.file ≡ Some file }
     requires writes { handle.mode ≡ OpenMode.ReadWrite }
-    requires standing { AreStanding trees.old handles.old }
-    ensures served { IfOk result (λ reply. (table : Rows) → IsOfTable table trees.old handles.old
-        → IsServed (λ fs. resize_step table fs p.0 id size) trees.old handles.old trees.new handles.new reply) }
-    ensures fault { IfErr result (λ fault. fault ≡ StepFault.Memory) }
-    ensures rig { rig.new ≡ rig.old }
+    requires serving { AreInService R.tells_view (R.state rig.old) trees.old handles.old }
+    ensures { (table : Rows) → AreOfTable table trees.old handles.old
+        → IsServed R.tells_view (λ fs. resize_step table fs p.0 id size)
+        (ReadsFailed true (R.state rig.old) (R.state rig.new)) 52 3
+        trees.old trees.new handles.old handles.new (R.state rig.old) (R.state rig.new) result }
 {
-    let store = trees.get_mut(handle.tree);
-    match store.resize(rig, file, size) {
+    match trees.resize(rig, handle.tree, file, size) {
         Ok(()) => {
             handles.set_position(p, id, handle.position.min(size));
             Ok(success(Values::Empty))
         }
         Err(StoreRefusal::Refused(errno)) => Ok(refusal(errno)),
-        Err(StoreRefusal::Device) => Err(StepFault::Device),
-        Err(StoreRefusal::Memory) => Err(StepFault::Memory),
+        Err(StoreRefusal::ReadFault) => Ok(refusal(Errno::Eio)),
+        Err(StoreRefusal::Device) => Err(DeviceFault),
     }
 }
 
@@ -123,13 +121,13 @@ pub fn resize_file<R: Rig>(
     p: PartitionId,
     id: u32,
     size: u32,
-) -> Result<Reply, StepFault>
+) -> Result<Reply, DeviceFault>
     requires caller { p.0 < length handles.old }
-    requires standing { AreStanding trees.old handles.old }
-    ensures served { IfOk result (λ reply. (table : Rows) → IsOfTable table trees.old handles.old
-        → IsServed (λ fs. resize_step table fs p.0 id size) trees.old handles.old trees.new handles.new reply) }
-    ensures fault { IfErr result (λ fault. fault ≡ StepFault.Memory) }
-    ensures rig { rig.new ≡ rig.old }
+    requires serving { AreInService R.tells_view (R.state rig.old) trees.old handles.old }
+    ensures { (table : Rows) → AreOfTable table trees.old handles.old
+        → IsServed R.tells_view (λ fs. resize_step table fs p.0 id size)
+        (ReadsFailed true (R.state rig.old) (R.state rig.new)) 52 3
+        trees.old trees.new handles.old handles.new (R.state rig.old) (R.state rig.new) result }
 {
     let Some(handle) = handles.file(p, id) else {
         return Ok(refusal(Errno::Ebadf));
@@ -152,20 +150,19 @@ fn sync_through<R: Rig>(
     id: u32,
     handle: FileHandle,
     file: FileNode,
-) -> Result<Reply, StepFault>
+) -> Result<Reply, DeviceFault>
     requires caller { p.0 < length handles.now }
     requires held { handle_at (handles_of handles.now p.0).files id ≡ Some handle }
     requires has_file { handle.file ≡ Some file }
     requires writes { handle.mode ≡ OpenMode.ReadWrite }
-    requires standing { AreStanding trees.old handles.now }
-    ensures served { IfOk result (IsServed (λ fs. sync_step fs p.0 id) trees.old handles.now trees.new handles.now) }
-    ensures fault { IfErr result (λ fault. fault ≡ StepFault.Memory) }
-    ensures rig { rig.new ≡ rig.old }
+    requires serving { AreInService R.tells_view (R.state rig.old) trees.old handles.now }
+    ensures { IsServed R.tells_view (λ fs. sync_step fs p.0 id)
+        (ReadsFailed false (R.state rig.old) (R.state rig.new)) 52 3
+        trees.old trees.new handles.now handles.now (R.state rig.old) (R.state rig.new) result }
 {
-    let store = trees.get_mut(handle.tree);
-    match store.sync(rig, file) {
+    match trees.sync(rig, handle.tree, file) {
         Ok(()) => Ok(success(Values::Empty)),
-        Err(_) => Err(StepFault::Device),
+        Err(fault) => Err(fault),
     }
 }
 
@@ -176,12 +173,12 @@ pub fn sync_file<R: Rig>(
     rig: &mut R,
     p: PartitionId,
     id: u32,
-) -> Result<Reply, StepFault>
+) -> Result<Reply, DeviceFault>
     requires caller { p.0 < length handles.now }
-    requires standing { AreStanding trees.old handles.now }
-    ensures served { IfOk result (IsServed (λ fs. sync_step fs p.0 id) trees.old handles.now trees.new handles.now) }
-    ensures fault { IfErr result (λ fault. fault ≡ StepFault.Memory) }
-    ensures rig { rig.new ≡ rig.old }
+    requires serving { AreInService R.tells_view (R.state rig.old) trees.old handles.now }
+    ensures { IsServed R.tells_view (λ fs. sync_step fs p.0 id)
+        (ReadsFailed false (R.state rig.old) (R.state rig.new)) 52 3
+        trees.old trees.new handles.now handles.now (R.state rig.old) (R.state rig.new) result }
 {
     let Some(handle) = handles.file(p, id) else {
         return Ok(refusal(Errno::Ebadf));

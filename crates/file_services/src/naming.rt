@@ -9,14 +9,14 @@ ghost use Rattle.file_tree.specs.Entries.{IsSpotAt};
 ghost use Rattle.open_handles.specs.NodeHandles.{handles_of};
 ghost use Rattle.open_handles.specs.Nodes.{writes_file};
 ghost use Rattle.store_model.specs.Stores.{StoreValue};
-ghost use Rattle.store_model.specs.Systems.{IsOfTable, store_at, file_path};
+ghost use Rattle.store_model.specs.Systems.{store_at, file_path};
 ghost use Rattle.service_parts.specs.Places.{right_of};
-ghost use Rattle.service_parts.specs.Serving.{IsServed};
+ghost use Rattle.service_parts.specs.Serving.{AllOutline, Serves};
 
 use apex_types::{Errno, FileNode, OpenMode, PartitionId, Reply, Spot, Table, Values};
-use memory_store::Trees;
 use open_handles::Handles;
 use service_parts::{Right, place_of, refusal, success};
+use tree_store::Trees;
 
 /// The right that opening a file in a mode needs.
 fn right_for(mode: OpenMode) -> Right
@@ -31,7 +31,8 @@ fn right_for(mode: OpenMode) -> Right
 /// Whether a file can't be opened in a mode, since it has a handle already that may write to it.
 fn is_busy(handles: &Handles, p: PartitionId, tree: u32, file: FileNode, mode: OpenMode) -> bool
     requires { p.0 < length handles.now }
-    ensures { result ≡ (may_write mode && any_open (writes_file tree file) (handles_of handles.now p.0).files) }
+    ensures { result
+        ≡ (may_write mode && any_open (writes_file tree file) (handles_of handles.now p.0).files) }
 {
     match mode {
         OpenMode::ReadOnly => false,
@@ -48,8 +49,10 @@ fn open_found(
     mode: OpenMode,
 ) -> Reply
     requires { p.0 < length handles.old }
-    ensures { (stores : List StoreValue) (names : List Name) → tree < length stores → file_path stores tree file ≡ Some names
-        → IsServed (λ fs. open_at fs p.0 mode (record { tree = tree; names = names }) (standing_at (tree_in fs tree) names)) stores handles.old stores handles.new result }
+    ensures { (stores : List StoreValue) (names : List Name) → tree < length stores
+        → file_path stores tree file ≡ Some names
+        → Serves (λ fs. open_at fs p.0 mode (record { tree = tree; names = names })
+        (standing_at (tree_in fs tree) names)) stores handles.old stores handles.new result }
 {
     if is_busy(handles, p, tree, file, mode) {
         return refusal(Errno::Ebusy);
@@ -63,8 +66,10 @@ fn open_found(
 /// Opens what stands at the end of a path of a tree, if that is a file.
 fn open_spot(handles: &mut Handles, p: PartitionId, tree: u32, spot: Spot, mode: OpenMode) -> Reply
     requires { p.0 < length handles.old }
-    ensures { (stores : List StoreValue) (names : List Name) → tree < length stores → IsSpotAt (store_at stores tree).tree names spot
-        → IsServed (λ fs. open_at fs p.0 mode (record { tree = tree; names = names }) (standing_at (tree_in fs tree) names)) stores handles.old stores handles.new result }
+    ensures { (stores : List StoreValue) (names : List Name) → tree < length stores
+        → IsSpotAt (store_at stores tree).tree names spot
+        → Serves (λ fs. open_at fs p.0 mode (record { tree = tree; names = names })
+        (standing_at (tree_in fs tree) names)) stores handles.old stores handles.new result }
 {
     match spot {
         Spot::Free { .. } => refusal(Errno::Enoent),
@@ -85,14 +90,16 @@ pub fn open_file(
 ) -> Reply
     requires accepted { IsAccepted table.now }
     requires caller { p.0 < length handles.old }
-    requires of_table { IsOfTable table.now trees.now handles.old }
-    ensures { IsServed (λ fs. open_step table.now fs p.0 path.now mode) trees.now handles.old trees.now handles.new result }
+    requires long { length trees.now ≡ length table.now.trees }
+    ensures { (stores : List StoreValue) → AllOutline trees.now stores
+        → Serves (λ fs. open_step table.now fs p.0 path.now mode)
+        stores handles.old stores handles.new result }
 {
     let place = match place_of(table, right_for(mode), p, path) {
         Err(errno) => return refusal(errno),
         Ok(place) => place,
     };
-    match trees.get(place.tree).tree().walk(&place.path) {
+    match trees.tree(place.tree).walk(&place.path) {
         Err(errno) => refusal(errno),
         Ok(spot) => open_spot(handles, p, place.tree, spot, mode),
     }

@@ -1,21 +1,23 @@
 // Renaming files within their trees.
-ghost use Rattle.std.specs.Prelude.{◌≡◌, ◌<◌, List, length, false, None, Some, IfOk, IfErr, IsSome};
+ghost use Rattle.std.specs.Prelude.{◌≡◌, ◌<◌, List, length, false, None, Some};
 ghost use Rattle.apex_model.specs.Accepted.{IsAccepted};
 ghost use Rattle.apex_model.specs.FileStep.{rename_at, rename_file as rename_step};
 ghost use Rattle.apex_model.specs.FileSystem.{tree_in};
 ghost use Rattle.apex_model.specs.Handles.{any_open};
 ghost use Rattle.apex_model.specs.Trees.{Name, standing_at, walk};
-ghost use Rattle.file_tree.specs.Entries.{IsSpotAt};
+ghost use Rattle.file_tree.specs.Entries.{IsSpotAt, slot};
 ghost use Rattle.open_handles.specs.NodeHandles.{handles_of};
 ghost use Rattle.open_handles.specs.Nodes.{holds_file};
-ghost use Rattle.store_model.specs.Systems.{IsOfTable, store_at, file_path};
-ghost use Rattle.service_parts.specs.Serving.{IsServed};
+ghost use Rattle.service_parts.specs.Serving.{AreInService, IsServed, ReadsFailed};
+ghost use Rattle.tree_store.specs.Calls.{AtTree};
+ghost use Rattle.tree_store.specs.Serving.{AreOfTable};
+ghost use Rattle.tree_store.specs.Stored.{names_of};
 
-use apex_types::{DirNode, Errno, FileNode, PartitionId, Reply, Spot, StepFault, Table, Values};
-use memory_store::Trees;
+use apex_types::{DirNode, Errno, FileNode, PartitionId, PathNames, Reply, Spot, Table, Values};
 use open_handles::Handles;
-use rig_core::Rig;
+use rig_core::{DeviceFault, Rig};
 use service_parts::{Place, Right, last_name, place_of, refusal, success};
+use tree_store::Trees;
 
 /// Gives a file of which the caller has no handle another path, at which nothing stands.
 fn rename_closed<R: Rig>(
@@ -23,26 +25,31 @@ fn rename_closed<R: Rig>(
     handles: &Handles,
     rig: &mut R,
     p: PartitionId,
+    from: &PathNames,
     target: Place,
     file: FileNode,
     parent: DirNode,
-) -> Result<Reply, StepFault>
+) -> Result<Reply, DeviceFault>
     requires caller { p.0 < length handles.now }
+    requires serving { AreInService R.tells_view (R.state rig.old) trees.old handles.now }
     requires within { target.tree < length trees.old }
-    requires way { walk (store_at trees.old target.tree).tree.nodes target.path.names ≡ None }
-    requires free { IsSpotAt (store_at trees.old target.tree).tree target.path.names (Spot.Free parent) }
-    requires closed { any_open (holds_file target.tree file) (handles_of handles.now p.0).files ≡ false }
-    requires in_use { IsSome (file_path trees.old target.tree file) }
-    ensures served { IfOk result (λ reply. (from : List Name) → file_path trees.old target.tree file ≡ Some from
-        → IsServed (λ fs. rename_at fs p.0 target.tree from target.path.names (standing_at (tree_in fs target.tree) from)) trees.old handles.now trees.new handles.now reply) }
-    ensures fault { IfErr result (λ fault. fault ≡ StepFault.Memory) }
-    ensures rig { rig.new ≡ rig.old }
+    requires way { AtTree trees.old target.tree (λ store.
+        walk (names_of store).nodes target.path.names ≡ None) }
+    requires free { AtTree trees.old target.tree (λ store.
+        IsSpotAt (names_of store) target.path.names (Spot.Free parent)) }
+    requires closed { any_open (holds_file target.tree file) (handles_of handles.now p.0).files
+        ≡ false }
+    requires found { AtTree trees.old target.tree (λ store.
+        slot (names_of store).files file.0 ≡ Some from.now) }
+    ensures { IsServed R.tells_view (λ fs. rename_at fs p.0 target.tree from.now
+        target.path.names (standing_at (tree_in fs target.tree) from.now))
+        (ReadsFailed false (R.state rig.old) (R.state rig.new)) 52 3
+        trees.old trees.new handles.now handles.now (R.state rig.old) (R.state rig.new) result }
 {
     let name = last_name(&target.path.names);
-    let store = trees.get_mut(target.tree);
-    match store.rename(rig, file, parent, name) {
+    match trees.rename(rig, target.tree, file, parent, name) {
         Ok(()) => Ok(success(Values::Empty)),
-        Err(_) => Err(StepFault::Device),
+        Err(fault) => Err(fault),
     }
 }
 
@@ -52,25 +59,30 @@ fn rename_to<R: Rig>(
     handles: &Handles,
     rig: &mut R,
     p: PartitionId,
+    from: &PathNames,
     target: Place,
     file: FileNode,
     spot: Spot,
-) -> Result<Reply, StepFault>
+) -> Result<Reply, DeviceFault>
     requires caller { p.0 < length handles.now }
+    requires serving { AreInService R.tells_view (R.state rig.old) trees.old handles.now }
     requires within { target.tree < length trees.old }
-    requires way { walk (store_at trees.old target.tree).tree.nodes target.path.names ≡ None }
-    requires found { IsSpotAt (store_at trees.old target.tree).tree target.path.names spot }
-    requires in_use { IsSome (file_path trees.old target.tree file) }
-    ensures served { IfOk result (λ reply. (from : List Name) → file_path trees.old target.tree file ≡ Some from
-        → IsServed (λ fs. rename_at fs p.0 target.tree from target.path.names (standing_at (tree_in fs target.tree) from)) trees.old handles.now trees.new handles.now reply) }
-    ensures fault { IfErr result (λ fault. fault ≡ StepFault.Memory) }
-    ensures rig { rig.new ≡ rig.old }
+    requires way { AtTree trees.old target.tree (λ store.
+        walk (names_of store).nodes target.path.names ≡ None) }
+    requires reached { AtTree trees.old target.tree (λ store.
+        IsSpotAt (names_of store) target.path.names spot) }
+    requires found { AtTree trees.old target.tree (λ store.
+        slot (names_of store).files file.0 ≡ Some from.now) }
+    ensures { IsServed R.tells_view (λ fs. rename_at fs p.0 target.tree from.now
+        target.path.names (standing_at (tree_in fs target.tree) from.now))
+        (ReadsFailed false (R.state rig.old) (R.state rig.new)) 52 3
+        trees.old trees.new handles.now handles.now (R.state rig.old) (R.state rig.new) result }
 {
     if handles.holds_file(p, target.tree, file) {
         return Ok(refusal(Errno::Ebusy));
     }
     match spot {
-        Spot::Free { parent } => rename_closed(trees, handles, rig, p, target, file, parent),
+        Spot::Free { parent } => rename_closed(trees, handles, rig, p, from, target, file, parent),
         Spot::Root => Ok(refusal(Errno::Eexist)),
         Spot::Directory { .. } => Ok(refusal(Errno::Eexist)),
         Spot::File { .. } => Ok(refusal(Errno::Eexist)),
@@ -83,16 +95,19 @@ fn rename_spot<R: Rig>(
     handles: &Handles,
     rig: &mut R,
     p: PartitionId,
+    from: &PathNames,
     target: Place,
     spot: Spot,
-) -> Result<Reply, StepFault>
+) -> Result<Reply, DeviceFault>
     requires caller { p.0 < length handles.now }
+    requires serving { AreInService R.tells_view (R.state rig.old) trees.old handles.now }
     requires within { target.tree < length trees.old }
-    requires found { (from : List Name) × IsSpotAt (store_at trees.old target.tree).tree from spot }
-    ensures served { IfOk result (λ reply. (from : List Name) → IsSpotAt (store_at trees.old target.tree).tree from spot
-        → IsServed (λ fs. rename_at fs p.0 target.tree from target.path.names (standing_at (tree_in fs target.tree) from)) trees.old handles.now trees.new handles.now reply) }
-    ensures fault { IfErr result (λ fault. fault ≡ StepFault.Memory) }
-    ensures rig { rig.new ≡ rig.old }
+    requires found { AtTree trees.old target.tree (λ store.
+        IsSpotAt (names_of store) from.now spot) }
+    ensures { IsServed R.tells_view (λ fs. rename_at fs p.0 target.tree from.now
+        target.path.names (standing_at (tree_in fs target.tree) from.now))
+        (ReadsFailed false (R.state rig.old) (R.state rig.new)) 52 3
+        trees.old trees.new handles.now handles.now (R.state rig.old) (R.state rig.new) result }
 {
     let file = match spot {
         Spot::Free { .. } => return Ok(refusal(Errno::Enoent)),
@@ -100,9 +115,9 @@ fn rename_spot<R: Rig>(
         Spot::Directory { .. } => return Ok(refusal(Errno::Eisdir)),
         Spot::File { node, .. } => node,
     };
-    match trees.get(target.tree).tree().walk(&target.path) {
+    match trees.tree(target.tree).walk(&target.path) {
         Err(errno) => Ok(refusal(errno)),
-        Ok(spot) => rename_to(trees, handles, rig, p, target, file, spot),
+        Ok(spot) => rename_to(trees, handles, rig, p, from, target, file, spot),
     }
 }
 
@@ -115,13 +130,14 @@ pub fn rename_file<R: Rig>(
     p: PartitionId,
     from: &[u8],
     to: &[u8],
-) -> Result<Reply, StepFault>
+) -> Result<Reply, DeviceFault>
     requires accepted { IsAccepted table.now }
     requires caller { p.0 < length handles.now }
-    requires of_table { IsOfTable table.now trees.old handles.now }
-    ensures served { IfOk result (IsServed (λ fs. rename_step table.now fs p.0 from.now to.now) trees.old handles.now trees.new handles.now) }
-    ensures fault { IfErr result (λ fault. fault ≡ StepFault.Memory) }
-    ensures rig { rig.new ≡ rig.old }
+    requires of_table { AreOfTable table.now trees.old handles.now }
+    requires serving { AreInService R.tells_view (R.state rig.old) trees.old handles.now }
+    ensures { IsServed R.tells_view (λ fs. rename_step table.now fs p.0 from.now to.now)
+        (ReadsFailed false (R.state rig.old) (R.state rig.new)) 52 3
+        trees.old trees.new handles.now handles.now (R.state rig.old) (R.state rig.new) result }
 {
     let source = match place_of(table, Right::Owner, p, from) {
         Err(errno) => return Ok(refusal(errno)),
@@ -134,8 +150,8 @@ pub fn rename_file<R: Rig>(
     if source.tree != target.tree {
         return Ok(refusal(Errno::Einval));
     }
-    match trees.get(source.tree).tree().walk(&source.path) {
+    match trees.tree(source.tree).walk(&source.path) {
         Err(errno) => Ok(refusal(errno)),
-        Ok(spot) => rename_spot(trees, handles, rig, p, target, spot),
+        Ok(spot) => rename_spot(trees, handles, rig, p, &source.path.names, target, spot),
     }
 }

@@ -1,12 +1,13 @@
 // Moving handles within files.
-ghost use Rattle.std.specs.Prelude.{◌≡◌, ◌<◌, ◌+ℤ◌, pos, length};
+ghost use Rattle.std.specs.Prelude.{◌≡◌, ◌<◌, ◌+ℤ◌, List, pos, length};
 ghost use Rattle.apex_model.specs.FileStep.{seek_file as seek_step, base, within_size};
-ghost use Rattle.service_parts.specs.Serving.{AreStanding, IsServed};
+ghost use Rattle.store_model.specs.Stores.{StoreValue};
+ghost use Rattle.service_parts.specs.Serving.{AllOutline, AreSeen, Serves};
 
 use apex_types::{Errno, PartitionId, Reply, Values, Whence};
-use memory_store::Trees;
 use open_handles::Handles;
 use service_parts::{refusal, success};
+use tree_store::Trees;
 
 /// What an offset counts from, at this position of a file of this size.
 fn base_of(whence: Whence, position: u32, size: u32) -> u32
@@ -50,8 +51,10 @@ pub fn seek_file(
     whence: Whence,
 ) -> Reply
     requires caller { p.0 < length handles.old }
-    requires standing { AreStanding trees.now handles.old }
-    ensures { IsServed (λ fs. seek_step fs p.0 id offset whence) trees.now handles.old trees.now handles.new result }
+    requires seen { AreSeen trees.now handles.old }
+    ensures { (stores : List StoreValue) → AllOutline trees.now stores
+        → Serves (λ fs. seek_step fs p.0 id offset whence)
+        stores handles.old stores handles.new result }
 {
     let Some(handle) = handles.file(p, id) else {
         return refusal(Errno::Ebadf);
@@ -59,7 +62,7 @@ pub fn seek_file(
     let Some(file) = handle.file else {
         return refusal(Errno::Estale);
     };
-    let size = trees.get(handle.tree).size(file);
+    let size = trees.size(handle.tree, file);
     let Some(target) = target_of(size, base_of(whence, handle.position, size), offset) else {
         return refusal(Errno::Einval);
     };

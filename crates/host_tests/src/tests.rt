@@ -3,15 +3,21 @@ ghost use Rattle.rig_core.specs.Leaves.{IsAllSettled};
 ghost use Rattle.rig_core.specs.MemRig.{mem_state};
 
 mod directory_calls;
+mod faults;
 mod file_calls;
 mod formats;
+mod images;
 mod refusals;
 
 use apex_host::{Status, host};
 use apex_types::{ByteList, CallKind, FailList, NumberList, OutOfMemory, Words};
+use config_table::read_table;
+use image_format::layout;
+use recover_scan::format;
 use rig_core::{MemRig, MemSource};
 use std::alloc::Global;
 use std::test::Fail;
+use test_fixtures::{failing, list_of, rig_of};
 
 /// A display and a flight management partition with one tree, one logbook and one channel.
 const SMALL: &[u8] = b"partition = [{ name = \"FMS\" }, { name = \"DISP\" }]
@@ -62,16 +68,49 @@ fn source(alloc: Global, bytes: &[u8], failing: u64) -> Result<MemSource, OutOfM
     Ok(MemSource::new(list, reads))
 }
 
-/// A rig in memory without a disk, of which the telling of this number fails, counted from 1; none at 0.
-fn rig(alloc: Global, failing: u64) -> Result<MemRig, OutOfMemory>
-    ensures { IfOk result (λ rig. IsAllSettled (mem_state rig)) }
-{
-    let mut tells = FailList::new(alloc);
-    tells.push(CallKind::Tell, failing)?;
-    MemRig::new(alloc, ByteList::new(alloc), tells, 64)
+/// The bytes of a table's image after a format; none where the table is refused.
+pub fn formatted(alloc: Global, table: &[u8]) -> Result<ByteList, OutOfMemory> {
+    let Ok(table) = read_table(alloc, table) else {
+        return Ok(ByteList::new(alloc));
+    };
+    let zeros = vec![in alloc; 0u8; 512 * layout(&table).blocks() as usize]?;
+    let mut rig = rig_of(alloc, &zeros, FailList::new(alloc))?;
+    match format(alloc, &mut rig, &table) {
+        Ok(()) => list_of(alloc, rig.view()),
+        Err(_) => Ok(ByteList::new(alloc)),
+    }
 }
 
-/// Whether `run` ends and tells so.
+/// A rig in memory over the formatted image of a table, of which the telling of this number fails, counted from 1; none
+/// at 0.
+fn rig(alloc: Global, table: &[u8], telling: u64) -> Result<MemRig, OutOfMemory>
+    ensures { IfOk result (λ rig. IsAllSettled (mem_state rig)) }
+{
+    let image = formatted(alloc, table)?;
+    rig_of(
+        alloc,
+        image.bytes(),
+        failing(alloc, &[(CallKind::Tell, telling)])?,
+    )
+}
+
+/// The status of `run` with this table and this script, on this rig.
+fn run_on(
+    alloc: Global,
+    table: &[u8],
+    script: &[u8],
+    rig: &mut MemRig,
+) -> Result<Status, OutOfMemory>
+    requires { IsAllSettled (mem_state rig.old) }
+{
+    let mut words = Words::new(alloc);
+    words.push(b"run")?;
+    let mut table = source(alloc, table, 0)?;
+    let mut script = source(alloc, script, 0)?;
+    Ok(host(alloc, &words, &mut table, &mut script, rig))
+}
+
+/// Whether `run`, over the formatted image of its table, ends and tells so.
 fn runs(
     alloc: Global,
     table: &[u8],
@@ -79,12 +118,8 @@ fn runs(
     status: Status,
     told: &[u8],
 ) -> Result<bool, OutOfMemory> {
-    let mut words = Words::new(alloc);
-    words.push(b"run")?;
-    let mut table = source(alloc, table, 0)?;
-    let mut script = source(alloc, script, 0)?;
-    let mut rig = rig(alloc, 0)?;
-    let ended = host(alloc, &words, &mut table, &mut script, &mut rig);
+    let mut rig = rig(alloc, table, 0)?;
+    let ended = run_on(alloc, table, script, &mut rig)?;
     Ok(ended == status && rig.told() == told)
 }
 
@@ -92,7 +127,7 @@ fn runs(
 fn is_usage(alloc: Global, words: &Words) -> Result<bool, OutOfMemory> {
     let mut table = source(alloc, SMALL, 0)?;
     let mut script = source(alloc, FIRST_RUN, 0)?;
-    let mut rig = rig(alloc, 0)?;
+    let mut rig = rig(alloc, SMALL, 0)?;
     let ended = host(alloc, words, &mut table, &mut script, &mut rig);
     Ok(ended == Status::Usage && rig.told() == USAGE)
 }
@@ -222,7 +257,7 @@ fn first_run_ends(
     words.push(b"run")?;
     let mut table = source(alloc, SMALL, table_read)?;
     let mut script = source(alloc, FIRST_RUN, script_read)?;
-    let mut rig = rig(alloc, telling)?;
+    let mut rig = rig(alloc, SMALL, telling)?;
     let ended = host(alloc, &words, &mut table, &mut script, &mut rig);
     Ok(ended == status && rig.told() == told)
 }
@@ -262,7 +297,7 @@ fn ends_at_a_source(
     words.push(word)?;
     let mut table = source(alloc, table, table_read)?;
     let mut script = source(alloc, script, script_read)?;
-    let mut rig = rig(alloc, 0)?;
+    let mut rig = rig(alloc, SMALL, 0)?;
     let ended = host(alloc, &words, &mut table, &mut script, &mut rig);
     Ok(ended == Status::SourceFault && rig.told() == told)
 }
@@ -298,7 +333,7 @@ fn ends_or_wants_memory(alloc: Global) -> Result<bool, OutOfMemory> {
     words.push(b"run")?;
     let mut table = source(alloc, SMALL, 0)?;
     let mut script = source(alloc, FIRST_RUN, 0)?;
-    let mut rig = rig(alloc, 0)?;
+    let mut rig = rig(alloc, SMALL, 0)?;
     Ok(
         match host(alloc, &words, &mut table, &mut script, &mut rig) {
             Status::Done => rig.told() == FIRST_RUN_TOLD,

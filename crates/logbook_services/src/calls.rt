@@ -3,7 +3,7 @@ ghost use Rattle.std.specs.Prelude.{◌≡◌, ◌⊎◌, ℕ, List, length, IfO
 ghost use Rattle.apex_model.specs.Accepted.{IsAccepted};
 ghost use Rattle.apex_model.specs.Logbooks as logbooks;
 ghost use Rattle.apex_model.specs.Logbooks.{LogbookSystem, logbook_service, logbook_step};
-ghost use Rattle.apex_model.specs.Outcomes.{bare_refusal, reply_of, state_after};
+ghost use Rattle.apex_model.specs.Outcomes.{reply_of, state_after};
 ghost use Rattle.rig_core.specs.Bytes.{SameElsewhere};
 ghost use Rattle.rig_core.specs.Causes.{Rose};
 ghost use Rattle.rig_core.specs.Leaves.{Leaves, LeavesElsewhere};
@@ -19,30 +19,7 @@ use crate::made::MadeMarks;
 use apex_types::{LogbookCall, Mode, PartitionId, Reply, ReturnCode, Table, Values};
 use logbook_store::Logs;
 use rig_core::{DeviceFault, Rig};
-use service_parts::success;
-
-/// A reply to a call that was refused.
-fn refused(code: ReturnCode) -> Reply
-    ensures { result ≡ bare_refusal code Values.Empty }
-{
-    Reply {
-        code,
-        errno: None,
-        values: Values::Empty,
-    }
-}
-
-fn is_normal(mode: Mode) -> bool
-    ensures { result ≡ logbooks.is_normal mode }
-{
-    mode == Mode::Normal
-}
-
-fn is_idle(mode: Mode) -> bool
-    ensures { result ≡ logbooks.is_idle mode }
-{
-    mode == Mode::Idle
-}
+use service_parts::{is_idle, is_normal, refused, success};
 
 /// CREATE_LOGBOOK: the logbook's id.
 fn create_logbook(

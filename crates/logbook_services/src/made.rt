@@ -49,7 +49,7 @@ fn unset_marks(alloc: Global, count: usize) -> Result<Vec<bool>, OutOfMemory>
 {
     let mut marks = Vec::new(alloc);
     for _ in 0..count {
-        marks.push(false).map_err(|_| OutOfMemory)?;
+        marks.push(false)?;
     }
     Ok(marks)
 }

@@ -1,12 +1,12 @@
 -- What the logbooks of a device stand for together.
-use Rattle.std.specs.Prelude.{◌≡◌, ◌⊎◌, ℕ, ◌+◌, ◌*◌, ◌<◌, ◌≤◌, List, [], ◌∷◌, map, Some, Err, Result, slice_get}
+use Rattle.std.specs.Prelude.{◌≡◌, ◌⊎◌, ℕ, ◌+◌, ◌*◌, ◌<◌, ◌≤◌, List, [], ◌∷◌, map, Some, Err, Result, slice_get, slice_set, slice_index_or}
 use Rattle.std.specs.List.{AllZip}
 use Rattle.apex_types.specs.Rows.{Rows}
 use Rattle.apex_types.specs.declared.rows.LogbookRow.{LogbookRow}
 use Rattle.apex_model.specs.Durable.{StoredLogbook}
 use Rattle.apex_model.specs.Image.{logbook_of_region, logbook_region, states_from}
 use Rattle.apex_model.specs.Layout.{logbook_blocks, logbook_start}
-use Rattle.apex_model.specs.Logbooks.{Logbook}
+use Rattle.apex_model.specs.Logbooks.{Logbook, cleared, empty_book}
 use Rattle.rig_core.specs.Causes.{Rose}
 use Rattle.rig_core.specs.Outside.{Outside}
 use Rattle.rig_core.specs.Leaves.{IsSettled}
@@ -61,6 +61,15 @@ IsMountFault table image before now tells Memory = Memory ≡ Memory
 abbrev pub AreBeforeOrAfter : List Site → List Logbook → List Logbook → List ℕ → Type 0
 AreBeforeOrAfter sites before after image = (k : ℕ) (site : Site) (b c : Logbook) → slice_get sites k ≡ Some site → slice_get before k ≡ Some b → slice_get after k ≡ Some c
     → IsStored site.0 site.1 b image ⊎ IsStored site.0 site.1 c image
+
+-- What reads gave stood for some logbooks, and now each region spells its logbook as before or as after, by itself.
+abbrev pub ShowsEither : Type 0 → List Book → (List Logbook → List Logbook) → List ℕ → List ℕ → Type 0
+ShowsEither tells_view books word old new =
+    (logbooks : List Logbook) → tells_view → StandFor books old logbooks → AreBeforeOrAfter (sites_of books) logbooks (word logbooks) new
+
+-- the logbook of a number is cleared
+abbrev pub with_cleared : ℕ → List Logbook → List Logbook
+with_cleared k logbooks = slice_set logbooks k (cleared (slice_index_or logbooks k empty_book))
 
 -- all regions lie in n bytes from a place on
 abbrev pub AreWithin : ℕ → ℕ → List Site → Type 0

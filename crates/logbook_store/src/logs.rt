@@ -12,7 +12,7 @@ ghost use Rattle.rig_core.specs.Bytes.{SameElsewhere};
 ghost use Rattle.rig_core.specs.Leaves.{Leaves, LeavesElsewhere, IsAllSettled};
 ghost use Rattle.logbook_store.specs.Books.{row_of, life_of, logged_of, progress_of, counts_of, counts_in};
 ghost use Rattle.logbook_store.specs.Moves.{HasMoved, moved_all, moving_count};
-ghost use Rattle.logbook_store.specs.Logs.{AreBeforeOrAfter, AreLaidOut, AreSettled, AreWithin, StandFor, IsMountFault, sites_of, sites_from, stored_in};
+ghost use Rattle.logbook_store.specs.Logs.{AreBeforeOrAfter, AreLaidOut, AreSettled, AreWithin, StandFor, ShowsEither, IsMountFault, sites_of, sites_from, stored_in, with_cleared};
 
 use crate::book::Book;
 use crate::errors::LogError;
@@ -159,6 +159,8 @@ impl Logs {
         ensures sites { sites_of self.new ≡ sites_of self.old }
         ensures any_moment { (logbooks : List Logbook) → R.tells_view → StandFor self.old (R.state rig.old).view logbooks
             → Leaves (AreBeforeOrAfter (sites_of self.old) logbooks (slice_set logbooks logbook (cleared (slice_index_or logbooks logbook empty_book)))) (R.state rig.old) (R.state rig.new) }
+        ensures shown { ShowsEither R.tells_view self.old (with_cleared logbook)
+            (R.state rig.old).view (R.state rig.new).view }
         ensures outside { (at n : ℕ) → AreWithin at n (sites_of self.old) → LeavesElsewhere at n (R.state rig.old) (R.state rig.new) }
         ensures outside_view { (at n : ℕ) → AreWithin at n (sites_of self.old) → R.tells_view → SameElsewhere at n (R.state rig.old).view (R.state rig.new).view }
         ensures cleared { (logbooks : List Logbook) → R.tells_view → StandFor self.old (R.state rig.old).view logbooks
@@ -182,6 +184,8 @@ impl Logs {
         ensures sites { sites_of self.new ≡ sites_of self.old }
         ensures any_moment { (logbooks : List Logbook) → R.tells_view → StandFor self.old (R.state rig.old).view logbooks
             → Leaves (AreBeforeOrAfter (sites_of self.old) logbooks (moved_all (sites_of self.old) logbooks)) (R.state rig.old) (R.state rig.new) }
+        ensures shown { ShowsEither R.tells_view self.old (moved_all (sites_of self.old))
+            (R.state rig.old).view (R.state rig.new).view }
         ensures outside { (at n : ℕ) → AreWithin at n (sites_of self.old) → LeavesElsewhere at n (R.state rig.old) (R.state rig.new) }
         ensures outside_view { (at n : ℕ) → AreWithin at n (sites_of self.old) → R.tells_view → SameElsewhere at n (R.state rig.old).view (R.state rig.new).view }
         ensures moved { (logbooks : List Logbook) → R.tells_view → StandFor self.old (R.state rig.old).view logbooks

@@ -7,7 +7,7 @@ ghost use Rattle.rig_core.specs.Outside.{Later, MakesAtMost};
 ghost use Rattle.rig_core.specs.Leaves.{Leaves, IsAllSettled};
 ghost use Rattle.apex_model.specs.Logbooks.{Logbook};
 ghost use Rattle.logbook_store.specs.Books.{row_of, start_of, progress_of};
-ghost use Rattle.logbook_store.specs.Logs.{AreBeforeOrAfter, AreLaidOut, AreSettled, StandFor, sites_of};
+ghost use Rattle.logbook_store.specs.Logs.{AreBeforeOrAfter, AreLaidOut, AreSettled, ShowsEither, StandFor, sites_of};
 ghost use Rattle.logbook_store.specs.Moves.{AllBefore, AreMovedIn, moved_all, NextPlace, IsClosed, IsOpened, IsWritten, LeavesBut, NextBody, NextGate, OfOne, OpenGate, SameBut, moving_count};
 
 use crate::book::Book;
@@ -134,6 +134,8 @@ pub fn move_on_device<R: Rig>(rig: &mut R, books: &[Book]) -> Result<(), DeviceF
     ensures made { MakesAtMost (3 * moving_count books.now) 3 0 (R.state rig.old) (R.state rig.new) }
     ensures any_moment { (logbooks : List Logbook) → R.tells_view → StandFor books.now (R.state rig.old).view logbooks
         → Leaves (AreBeforeOrAfter (sites_of books.now) logbooks (moved_all (sites_of books.now) logbooks)) (R.state rig.old) (R.state rig.new) }
+    ensures shown { ShowsEither R.tells_view books.now (moved_all (sites_of books.now))
+        (R.state rig.old).view (R.state rig.new).view }
     ensures outside { LeavesBut (OfOne NextPlace books.now) (R.state rig.old) (R.state rig.new) }
     ensures outside_view { R.tells_view → SameBut (OfOne NextPlace books.now) (R.state rig.old).view (R.state rig.new).view }
     ensures moved { (logbooks : List Logbook) → R.tells_view → StandFor books.now (R.state rig.old).view logbooks → OnOk result (AreMovedIn books.now (R.state rig.new).view logbooks) }

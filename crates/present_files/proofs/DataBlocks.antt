@@ -7,8 +7,8 @@ use Rattle.apex_model.specs.Image.{data_block}
 use Rattle.apex_model.specs.Layout.{tree_blocks}
 use Rattle.rig_core.specs.Bytes.{part}
 use Rattle.rig_core.proofs.Put.{length-part}
-use Rattle.tree_changes.specs.InStep.{block_place, data_at, slots_long}
-use Rattle.tree_changes.proofs.Places.{data-part}
+use Rattle.tree_region.specs.InStep.{block_place, data_at, slots_long}
+use Rattle.tree_region.proofs.ChangePlaces.{data-part}
 
 pub part-part : (a n b m : ℕ) (image : List ℕ) → b + m ≤ n → part b m (part a n image) ≡ part (a + b) m image
 part-part a n b m image fits =

@@ -10,7 +10,7 @@ use Rattle.apex_model.specs.Image.{data_block}
 use Rattle.apex_model.specs.Layout.{tree_blocks}
 use Rattle.block_pool.specs.Buffers.{Buffers, AreBuffers, node_of}
 use Rattle.rig_core.specs.Bytes.{byte}
-use Rattle.tree_changes.specs.InStep.{data_at}
+use Rattle.tree_region.specs.InStep.{data_at}
 use Rattle.present_files.specs.Dropped.{AreDropped, IsBeside}
 use Rattle.present_files.specs.Nodes.{OthersStay, bytes_of, held_or}
 use Rattle.present_files.specs.Present.{ArePresent, block_in, number_in, room_in, row_length, size_in}

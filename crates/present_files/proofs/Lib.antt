@@ -3,6 +3,8 @@ pub mod DataBlocks
 pub mod GivenUp
 pub mod HeldBlocks
 pub mod Joined
+pub mod Marks
+pub mod Placed
 pub mod ReadRuns
 pub mod Rooms
 pub mod Sizes

@@ -11,7 +11,7 @@ use Rattle.apex_model.specs.Image.{data_block, joined}
 use Rattle.apex_model.specs.Layout.{tree_blocks}
 use Rattle.block_pool.specs.Buffers.{Buffers, AreBuffers, node_of}
 use Rattle.rig_core.specs.Bytes.{byte, put}
-use Rattle.tree_changes.specs.InStep.{data_at}
+use Rattle.tree_region.specs.InStep.{data_at}
 use Rattle.present_files.specs.Nodes.{IsOther, OthersStay, bytes_of}
 use Rattle.present_files.specs.Present.{ArePresent, block_in, number_in, room_in, row_length, size_in}
 use Rattle.present_files.specs.declared.present.PresentSize.{PresentSize}

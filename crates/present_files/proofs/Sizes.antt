@@ -7,7 +7,7 @@ use Rattle.apex_types.specs.declared.numbers.FileNode.{FileNode}
 use Rattle.apex_types.specs.declared.rows.TreeRow.{TreeRow}
 use Rattle.apex_model.specs.Files.{blocks_of}
 use Rattle.block_pool.specs.Buffers.{Buffers, node_of}
-use Rattle.tree_mount.specs.Numbers.{most_blocks}
+use Rattle.tree_region.specs.Numbers.{most_blocks}
 use Rattle.present_files.specs.Present.{ArePresent, never_changed, number_in, size_in}
 use Rattle.present_files.specs.declared.present.PresentSize.{PresentSize}
 use Rattle.present_files.proofs.Rooms.{same-file}

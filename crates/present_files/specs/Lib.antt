@@ -1,4 +1,5 @@
 pub mod Dropped
+pub mod Durable
 pub mod Kept
 pub mod Nodes
 pub mod Present

@@ -6,7 +6,7 @@ use Rattle.apex_types.specs.declared.rows.TreeRow.{TreeRow}
 use Rattle.apex_model.specs.Files.{Content, blocks_of}
 use Rattle.apex_model.specs.Image.{data_block}
 use Rattle.block_pool.specs.Buffers.{Buffers, node_of}
-use Rattle.tree_mount.specs.Numbers.{most_blocks}
+use Rattle.tree_region.specs.Numbers.{most_blocks}
 use Rattle.present_files.specs.Nodes.{held_or, free_in}
 use Rattle.present_files.specs.declared.present.Present.{Present}
 use Rattle.present_files.specs.declared.present.PresentSize.{PresentSize}

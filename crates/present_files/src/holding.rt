@@ -7,7 +7,7 @@ ghost use Rattle.block_pool.specs.Lists.{node_count};
 ghost use Rattle.rig_core.specs.Bytes.{put};
 ghost use Rattle.rig_core.specs.Causes.{Rose};
 ghost use Rattle.rig_core.specs.Outside.{OnlyReads};
-ghost use Rattle.tree_changes.specs.InStep.{data_at};
+ghost use Rattle.tree_region.specs.InStep.{data_at};
 ghost use Rattle.present_files.specs.Nodes.{AllStay, OthersStay, free_in, held_or};
 
 use crate::stored::read_stored;

@@ -1,6 +1,6 @@
 // The present contents of a tree's files.
 use block_pool::Pool;
-use tree_mount::BlockNumbers;
+use tree_region::BlockNumbers;
 
 /// The present size of a file in bytes, and how often it was changed.
 #[derive(Clone, Copy)]

@@ -6,7 +6,7 @@ ghost use Rattle.block_pool.specs.Buffers.{AreBuffers};
 ghost use Rattle.rig_core.specs.Bytes.{part};
 ghost use Rattle.rig_core.specs.Causes.{Rose};
 ghost use Rattle.rig_core.specs.Outside.{OnlyReads};
-ghost use Rattle.tree_changes.specs.InStep.{data_at};
+ghost use Rattle.tree_region.specs.InStep.{data_at};
 ghost use Rattle.present_files.specs.Present.{IsPresent, content_of, present_block, room_bytes, size_of};
 
 use crate::holding::stand;

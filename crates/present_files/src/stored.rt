@@ -5,7 +5,7 @@ ghost use Rattle.apex_model.specs.Layout.{tree_blocks};
 ghost use Rattle.rig_core.specs.Bytes.{part};
 ghost use Rattle.rig_core.specs.Causes.{Rose};
 ghost use Rattle.rig_core.specs.Outside.{OnlyReads};
-ghost use Rattle.tree_changes.specs.InStep.{block_place, data_at};
+ghost use Rattle.tree_region.specs.InStep.{block_place, data_at};
 
 use apex_types::TreeRow;
 use rig_core::{DeviceFault, Rig};

@@ -6,3 +6,4 @@ pub mod Ordered
 pub mod Phases
 pub mod Rest
 pub mod Sizes
+pub mod Small

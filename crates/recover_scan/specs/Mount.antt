@@ -1,5 +1,5 @@
 -- Whether an image is one of a table, and why it isn't mounted.
-use Rattle.std.specs.Prelude.{◌≡◌, ℕ, ◌*◌, ◌≤◌, true, List, length, None, Err}
+use Rattle.std.specs.Prelude.{◌≡◌, ℕ, ◌*◌, ◌<◌, ◌≤◌, true, List, length, None, Err}
 use Rattle.apex_types.specs.Rows.{Rows}
 use Rattle.apex_model.specs.Image.{state_of, is_open, blocks_at, first_difference, wanted_superblock, too_small, not_formatted, other_table, bad_tree, bad_logbook}
 use Rattle.apex_model.specs.Layout.{layout_blocks}
@@ -21,6 +21,10 @@ IsRefusedFor table image (BadTree tree) = state_of table image ≡ Err (bad_tree
 IsRefusedFor table image (BadLogbook logbook) = state_of table image ≡ Err (bad_logbook logbook)
 IsRefusedFor table image Device = Unit {0}
 IsRefusedFor table image Memory = Unit {0}
+
+-- That a device of so many bytes is too small is told only where it is, with the bytes that the table wants.
+abbrev pub IsSmallFor : Rows → ℕ → MountError → Type 0
+IsSmallFor table size error = (wanted : ℕ) → error ≡ TooSmall wanted → (size < wanted) × (wanted ≡ 512 * layout_blocks table)
 
 -- a fault of the device, or want of memory
 abbrev pub IsFaultOrMemory : MountError → Type 0

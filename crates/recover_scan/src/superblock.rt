@@ -6,7 +6,7 @@ ghost use Rattle.apex_model.specs.Layout.{layout_blocks};
 ghost use Rattle.rig_core.specs.Bytes.{part};
 ghost use Rattle.rig_core.specs.Causes.{Rose};
 ghost use Rattle.rig_core.specs.Outside.{OnlyReads};
-ghost use Rattle.recover_scan.specs.Mount.{IsImageOf, IsRefusedFor, IsFaultOrMemory};
+ghost use Rattle.recover_scan.specs.Mount.{IsImageOf, IsRefusedFor, IsSmallFor, IsFaultOrMemory};
 ghost use Rattle.recover_scan.specs.declared.errors.MountError.TheVariants.{TooSmall};
 
 use crate::MountError;
@@ -60,6 +60,7 @@ pub fn read_superblock<R: Rig>(alloc: Global, rig: &mut R, table: &Table) -> Res
     ensures room { OnOk result (512 * layout_blocks table.now ≤ (R.state rig.old).size) }
     ensures refused { R.tells_view → IfErr result (IsRefusedFor table.now (R.state rig.old).view) }
     ensures small { (R.state rig.old).size < 512 * layout_blocks table.now → result ≡ Err (TooSmall (512 * layout_blocks table.now)) }
+    ensures wanted { IfErr result (IsSmallFor table.now (R.state rig.old).size) }
     ensures reads { OnlyReads R.tells_view (R.state rig.old) (R.state rig.new) }
     ensures cause { IsErrOf result MountError.Device → Rose (R.state rig.old).read_faults (R.state rig.new).read_faults }
 {

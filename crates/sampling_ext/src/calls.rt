@@ -4,8 +4,7 @@ ghost use Rattle.apex_types.specs.Rows.{Rows};
 ghost use Rattle.apex_model.specs.Accepted.{IsAccepted};
 ghost use Rattle.apex_model.specs.Channels as channels;
 ghost use Rattle.apex_model.specs.Channels.{PortSystem, Sample, channel_in, sampling_service, sampling_step};
-ghost use Rattle.apex_model.specs.Logbooks.{is_normal as is_normal_mode, is_idle as is_idle_mode};
-ghost use Rattle.apex_model.specs.Outcomes.{bare_refusal, accepted, reply_of, state_after};
+ghost use Rattle.apex_model.specs.Outcomes.{accepted, reply_of, state_after};
 ghost use Rattle.service_parts.specs.Told.{IsTellable};
 ghost use Rattle.sampling_ext.specs.Ends.{end_of};
 ghost use Rattle.sampling_ext.specs.Standing.{Stands, IsServing, IsOfTable};
@@ -18,43 +17,13 @@ use apex_types::{
     ChannelRow, Mode, PartitionId, Reply, ReturnCode, SamplingCall, Table, Updated, Validity,
     Values,
 };
-use service_parts::{bytes_of, success};
+use service_parts::{bytes_of, is_idle, is_normal, refused, refused_with, success};
 
 /// Which end of which channel a port is.
 #[derive(Clone, Copy)]
 struct Place {
     channel: usize,
     end: ChannelEnd,
-}
-
-/// A reply to a call that was refused, with values and without an errno.
-fn refused_with(code: ReturnCode, values: Values) -> Reply
-    ensures { result ≡ bare_refusal code values }
-{
-    Reply {
-        code,
-        errno: None,
-        values,
-    }
-}
-
-/// A reply to a call that was refused.
-fn refused(code: ReturnCode) -> Reply
-    ensures { result ≡ bare_refusal code Values.Empty }
-{
-    refused_with(code, Values::Empty)
-}
-
-fn is_normal(mode: Mode) -> bool
-    ensures { result ≡ is_normal_mode mode }
-{
-    mode == Mode::Normal
-}
-
-fn is_idle(mode: Mode) -> bool
-    ensures { result ≡ is_idle_mode mode }
-{
-    mode == Mode::Idle
 }
 
 /// Where a partition's created port of this id stands, with the row of its channel.

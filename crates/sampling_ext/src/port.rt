@@ -91,7 +91,7 @@ impl PortList {
     fn push(&mut self, port: Port) -> Result<(), OutOfMemory>
         ensures { OnOk result (self.new ≡ self.old ++ port ∷ []) }
     {
-        self.content.push(port).map_err(|_| OutOfMemory)
+        Ok(self.content.push(port)?)
     }
 
     /// Adds the ports of a channel.

@@ -41,9 +41,7 @@ fn unused_channels(alloc: Global, table: &Table) -> Result<Vec<Channel>, OutOfMe
 {
     let mut channels = Vec::new(alloc);
     for row in table.channels() {
-        channels
-            .push(Channel::unused(row))
-            .map_err(|_| OutOfMemory)?;
+        channels.push(Channel::unused(row))?;
     }
     Ok(channels)
 }
@@ -54,7 +52,7 @@ fn unset_marks(alloc: Global, count: usize) -> Result<Vec<bool>, OutOfMemory>
 {
     let mut marks = Vec::new(alloc);
     for _ in 0..count {
-        marks.push(false).map_err(|_| OutOfMemory)?;
+        marks.push(false)?;
     }
     Ok(marks)
 }

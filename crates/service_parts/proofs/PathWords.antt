@@ -1,5 +1,5 @@
 -- The words of services that go on at the place that a path leads to.
-use Rattle.std.proofs.Common.{◌≡◌, ℕ, ◌<◌, List, Option, Some, None, sym, ◌∙◌, ap, length}
+use Rattle.std.proofs.Common.{◌≡◌, ℕ, ◌<◌, List, Option, sym, ◌∙◌, ap, length}
 use Rattle.std.specs.Prelude.{Result, Ok, Err}
 use Rattle.apex_types.specs.Rows.{Rows}
 use Rattle.apex_types.specs.declared.codes.Errno.{Errno}

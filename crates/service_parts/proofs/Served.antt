@@ -6,11 +6,12 @@ use Rattle.apex_types.specs.declared.codes.Errno.{Errno}
 use Rattle.apex_types.specs.declared.replies.Reply.{Reply}
 use Rattle.apex_types.specs.declared.replies.Values.{Values}
 use Rattle.apex_model.specs.FileSystem.{FileSystem}
-use Rattle.apex_model.specs.Outcomes.{Outcome, accepted, refused, success, refusal, reply_of, state_after, refuse}
+use Rattle.apex_model.specs.Outcomes.{Outcome, accepted, success, refusal, reply_of, state_after, refuse}
 use Rattle.open_handles.specs.NodeHandles.{AllHandles}
 use Rattle.store_model.specs.Stores.{StoreValue}
 use Rattle.store_model.specs.Systems.{Stands, IsOfTable}
-use Rattle.service_parts.specs.Serving.{IsServed}
+use Rattle.tree_store.specs.Serving.{IsAccepting}
+use Rattle.service_parts.specs.Serving.{Serves}
 use Rattle.service_parts.specs.Told.{IsTellable}
 
 -- what a test of an option says of it
@@ -28,9 +29,17 @@ pub record Goes (step : FileSystem → Outcome FileSystem) (stores : List StoreV
   pub is : step fs ≡ accepted after values
   pub stands : Stands stores handles after
 
+-- such a step is accepted
+pub accepting : {step : FileSystem → Outcome FileSystem} {stores : List StoreValue} {handles : AllHandles} {values : Values} {fs : FileSystem} → Goes step stores handles values fs → IsAccepting (step fs)
+accepting {step} {stores} {handles} {values} {fs} goes = (goes.after, values, goes.is)
+
+-- what is carried out can be told
+pub success-told : {values : Values} {told : Reply} → told ≡ success values → IsTellable told
+success-told {values} {told} is = subst (λ (r : Reply). IsTellable r) (sym is) (λ data_there. refl)
+
 module _ (step : FileSystem → Outcome FileSystem) (stores : List StoreValue) (handles : AllHandles) where
   -- a refusal leaves all as it was
-  pub refused-served : (e : Errno) → ((fs : FileSystem) → Stands stores handles fs → step fs ≡ refuse e) → IsServed step stores handles stores handles (refusal e)
+  pub refused-served : (e : Errno) → ((fs : FileSystem) → Stands stores handles fs → step fs ≡ refuse e) → Serves step stores handles stores handles (refusal e)
   refused-served e is = record {
     reply = λ fs s. sym (ap reply_of (is fs s));
     state = λ fs s. let P : Outcome FileSystem → Type 0 = λ o. Stands stores handles (state_after fs o) in subst P (sym (is fs s)) s;
@@ -40,7 +49,7 @@ module _ (step : FileSystem → Outcome FileSystem) (stores : List StoreValue) (
 
   -- what is carried out gives a reply without an errno
   pub accepted-served : (new_stores : List StoreValue) (new_handles : AllHandles) (values : Values) → ((fs : FileSystem) → Stands stores handles fs → Goes step new_stores new_handles values fs)
-      → ((table : Rows) → IsOfTable table stores handles → IsOfTable table new_stores new_handles) → IsServed step stores handles new_stores new_handles (success values)
+      → ((table : Rows) → IsOfTable table stores handles → IsOfTable table new_stores new_handles) → Serves step stores handles new_stores new_handles (success values)
   accepted-served new_stores new_handles values goes of_table = record {
     reply = λ fs s. sym (ap reply_of (goes fs s).is);
     state = λ fs s. let P : Outcome FileSystem → Type 0 = λ o. Stands new_stores new_handles (state_after fs o) in subst P (sym (goes fs s).is) (goes fs s).stands;
@@ -50,7 +59,7 @@ module _ (step : FileSystem → Outcome FileSystem) (stores : List StoreValue) (
 
   -- the same step in other words
   pub step-served : (other : FileSystem → Outcome FileSystem) (new_stores : List StoreValue) (new_handles : AllHandles) (told : Reply) → ((fs : FileSystem) → Stands stores handles fs → step fs ≡ other fs)
-      → IsServed other stores handles new_stores new_handles told → IsServed step stores handles new_stores new_handles told
+      → Serves other stores handles new_stores new_handles told → Serves step stores handles new_stores new_handles told
   step-served other new_stores new_handles told same served = record {
     reply = λ fs s. served.reply fs s ∙ sym (ap reply_of (same fs s));
     state = λ fs s. let P : Outcome FileSystem → Type 0 = λ o. Stands new_stores new_handles (state_after fs o) in subst P (sym (same fs s)) (served.state fs s);
@@ -60,23 +69,19 @@ module _ (step : FileSystem → Outcome FileSystem) (stores : List StoreValue) (
 
   -- the same stores, handles and reply in other words
   pub served-as : (new_stores : List StoreValue) (new_handles : AllHandles) (told : Reply) (other_stores : List StoreValue) (other_handles : AllHandles) (other : Reply)
-      → other_stores ≡ new_stores → other_handles ≡ new_handles → other ≡ told → IsServed step stores handles new_stores new_handles told → IsServed step stores handles other_stores other_handles other
+      → other_stores ≡ new_stores → other_handles ≡ new_handles → other ≡ told → Serves step stores handles new_stores new_handles told → Serves step stores handles other_stores other_handles other
   served-as new_stores new_handles told other_stores other_handles other a b c served =
-      let P : List StoreValue → Type 0 = λ xs. IsServed step stores handles xs other_handles other in
-      let Q : AllHandles → Type 0 = λ hs. IsServed step stores handles new_stores hs other in
-      let R : Reply → Type 0 = λ r. IsServed step stores handles new_stores new_handles r in
+      let P : List StoreValue → Type 0 = λ xs. Serves step stores handles xs other_handles other in
+      let Q : AllHandles → Type 0 = λ hs. Serves step stores handles new_stores hs other in
+      let R : Reply → Type 0 = λ r. Serves step stores handles new_stores new_handles r in
       subst P (sym a) (subst Q (sym b) (subst R (sym c) served))
-
-  -- a refusal that is told so
-  pub refused-as : (e : Errno) (told : Reply) → told ≡ refusal e → ((fs : FileSystem) → Stands stores handles fs → step fs ≡ refuse e) → IsServed step stores handles stores handles told
-  refused-as e told c is = served-as stores handles (refusal e) stores handles told refl refl c (refused-served e is)
 
 -- the same in other words
 pub served-new : {step : FileSystem → Outcome FileSystem} {stores new_stores other_stores : List StoreValue} {handles new_handles other_handles : AllHandles} {told other : Reply}
-    → other_stores ≡ new_stores → other_handles ≡ new_handles → other ≡ told → IsServed step stores handles new_stores new_handles told → IsServed step stores handles other_stores other_handles other
+    → other_stores ≡ new_stores → other_handles ≡ new_handles → other ≡ told → Serves step stores handles new_stores new_handles told → Serves step stores handles other_stores other_handles other
 served-new {step} {stores} {new_stores} {other_stores} {handles} {new_handles} {other_handles} {told} {other} a b c served =
     served-as step stores handles new_stores new_handles told other_stores other_handles other a b c served
 
 pub served-told : {step : FileSystem → Outcome FileSystem} {stores new_stores : List StoreValue} {handles new_handles : AllHandles} {told other : Reply}
-    → other ≡ told → IsServed step stores handles new_stores new_handles told → IsServed step stores handles new_stores new_handles other
+    → other ≡ told → Serves step stores handles new_stores new_handles told → Serves step stores handles new_stores new_handles other
 served-told {step} {stores} {new_stores} {handles} {new_handles} {told} {other} c served = served-as step stores handles new_stores new_handles told new_stores new_handles other refl refl c served

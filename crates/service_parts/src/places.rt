@@ -130,7 +130,9 @@ pub fn place_of(table: &Table, right: Right, p: PartitionId, bytes: &[u8]) -> Re
 /// The last of the names of a path.
 pub fn last_name(names: &PathNames) -> Name
     requires { 1 ≤ length names.now }
-    ensures { slice_get names.now (length names.now - 1) ≡ Some result }
+    ensures last { slice_get names.now (length names.now - 1) ≡ Some result }
+    // What holds of every path; a caller learns it here.
+    ensures few { length names.now ≤ 6 }
 {
     names.at(names.len() - 1).copy()
 }

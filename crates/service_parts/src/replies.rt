@@ -1,6 +1,6 @@
 // The replies that services give.
 ghost use Rattle.std.specs.Prelude.{◌≡◌, ◌≤◌, length};
-ghost use Rattle.apex_model.specs.Outcomes.{success as accepted_with, refusal as refused_for};
+ghost use Rattle.apex_model.specs.Outcomes.{success as accepted_with, refusal as refused_for, bare_refusal};
 
 use apex_types::{Bytes, Errno, Reply, ReturnCode, Values, code_of};
 
@@ -24,6 +24,24 @@ pub fn refusal(errno: Errno) -> Reply
         errno: Some(errno),
         values: Values::Empty,
     }
+}
+
+/// A reply to a call that was refused for a reason without an errno, with values.
+pub fn refused_with(code: ReturnCode, values: Values) -> Reply
+    ensures { result ≡ bare_refusal code values }
+{
+    Reply {
+        code,
+        errno: None,
+        values,
+    }
+}
+
+/// A reply to a call that was refused for a reason without an errno.
+pub fn refused(code: ReturnCode) -> Reply
+    ensures { result ≡ bare_refusal code Values.Empty }
+{
+    refused_with(code, Values::Empty)
 }
 
 /// The data of a reply: these bytes.

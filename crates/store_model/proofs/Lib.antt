@@ -13,6 +13,5 @@ pub mod SystemsFiles
 pub mod SystemsGrown
 pub mod SystemsHeld
 pub mod SystemsMoved
-pub mod SystemsStarted
 pub mod SystemsSteps
 pub mod SystemsWords

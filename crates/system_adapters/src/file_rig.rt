@@ -15,10 +15,11 @@ use std::rt::Files;
 /// The disk's size in bytes: 131,072 blocks of 512.
 const DISK_SIZE: u64 = 67_108_864;
 
-/// A file as the disk, and the output that lines are told on. The file is opened at the first read, write or sync, and
-/// made where it is absent; a call that can't open it fails, and the next one tries again. The disk has its whole size
-/// from the start: bytes past the file's end are zeros. The rig tells neither its view nor its text, and keeps nothing
-/// of cuts. The size and the form of the file are this project's own.
+/// A file as the disk, and the output that lines are told on. The file is opened at the first read, write or sync that
+/// finds it, and made by the first write where it is absent; a call that can't open it fails, and the next one tries
+/// again. A file that may only be read serves reads and syncs, and each write of it fails. The disk has its whole size
+/// from the start: bytes past the file's end are zeros, and so are all bytes where there is no file. The rig tells
+/// neither its view nor its text, and keeps nothing of cuts. The size and the form of the file are this project's own.
 #[derive(Drop)]
 pub struct FileRig<'a, R, F, W> {
     disk: DiskFile<'a, R, F>,
@@ -101,8 +102,8 @@ impl<'a, R: Files<File = F>, F: FileExt + OpenFile + Drop, W: Write> Rig for Fil
         DISK_SIZE
     }
 
-    /// Reads from the file, and gives zeros past its end. It fails where the file can't be opened or read, and the
-    /// buffer may then hold anything.
+    /// Reads from the file, and gives zeros past its end and where there is no file; it makes none. It fails where the
+    /// file can't be opened or read, and the buffer may then hold anything.
     fn read(&mut self, at: u64, into: &mut [u8]) -> Result<(), Failed>
         requires { at + length into.old ≤ (file_state self.old).size }
         ensures later { Later (file_state self.old) (file_state self.new) }
@@ -122,8 +123,8 @@ impl<'a, R: Files<File = F>, F: FileExt + OpenFile + Drop, W: Write> Rig for Fil
         count_fault(read, &mut self.read_faults)
     }
 
-    /// Writes to the file, all bytes by one call of the system where it takes them at once. It fails where the file can't
-    /// be opened or written, and any part of the bytes may then stand there.
+    /// Writes to the file, all bytes by one call of the system where it takes them at once, and makes it where there is
+    /// none. It fails where the file can't be made, opened or written, and any part of the bytes may then stand there.
     fn write(&mut self, at: u64, bytes: &[u8]) -> Result<(), Failed>
         requires { at + length bytes.now ≤ (file_state self.old).size }
         ensures later { Later (file_state self.old) (file_state self.new) }
@@ -147,9 +148,10 @@ impl<'a, R: Files<File = F>, F: FileExt + OpenFile + Drop, W: Write> Rig for Fil
         count_fault(written, &mut self.write_faults)
     }
 
-    /// Asks for the strongest flush of the file. It opens the file for it where it isn't open yet, since an earlier run
-    /// may have left bytes of it unwritten. After a failure nothing is known of what reached the disk, and no later sync
-    /// makes it known.
+    /// Asks for the strongest flush of the file, and once of its name in its folder. It opens the file for it where it
+    /// isn't open yet, since an earlier run may have left bytes of it, or its name, unwritten; where there is no file
+    /// nothing is asked. It fails where the file or its folder can't be opened or flushed. After a failure nothing is
+    /// known of what reached the disk, and no later sync makes it known.
     fn sync(&mut self) -> Result<(), Failed>
         ensures later { Later (file_state self.old) (file_state self.new) }
         ensures made { MakesAtMost 0 1 0 (file_state self.old) (file_state self.new) }

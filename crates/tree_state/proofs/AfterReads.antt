@@ -5,9 +5,9 @@ use Rattle.apex_model.specs.Image.{tree_of_region}
 use Rattle.rig_core.specs.Bytes.{SameWithin}
 use Rattle.rig_core.specs.Outside.{Outside, AllNow, Sound, OnlyReads}
 use Rattle.rig_core.proofs.Moments.{now_none}
-use Rattle.tree_changes.specs.InStep.{InStep, SameNamed, data_at, slots_long}
-use Rattle.tree_mount.specs.Region.{StandsFor, region_at}
-use Rattle.tree_mount.specs.declared.region.TreeRegion.{TreeRegion}
+use Rattle.tree_region.specs.InStep.{InStep, SameNamed, data_at, slots_long}
+use Rattle.tree_region.specs.Region.{StandsFor, region_at}
+use Rattle.tree_region.specs.declared.region.TreeRegion.{TreeRegion}
 
 module _ (V K : Type 0) (o e : Outside) (sound : Sound V K e) (reads : OnlyReads V o e) where
   -- what joins the view with each image that a cut may leave now

@@ -1,7 +1,7 @@
 -- Fresh block numbers stay apart from all others while numbers become durable, and while numbers are given up.
 use Rattle.std.proofs.Common.{◌≡◌, ◌≢◌, ◌⊎◌, inl, inr, ℕ, true, List, sym, ◌∙◌, arith, refl}
 use Rattle.std.proofs.lemmas.Bool.Decides.{nat_tests}
-use Rattle.free_blocks.specs.Rows.{number_at, with_number, is_new, is_fresh, AreApart}
+use Rattle.tree_region.specs.OwnedRows.{number_at, with_number, is_new, is_fresh, AreApart}
 use Rattle.tree_state.proofs.Rows.{number-either, present-either, with_present}
 
 -- ---- the test, as what it says

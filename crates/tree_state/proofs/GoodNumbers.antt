@@ -10,11 +10,11 @@ use Rattle.apex_types.specs.declared.rows.TreeRow.{TreeRow}
 use Rattle.apex_model.specs.Image.{are_distinct}
 use Rattle.file_tree.specs.Entries.{TreeValue}
 use Rattle.file_tree.proofs.Children.{and-first, and-second}
-use Rattle.free_blocks.specs.Rows.{number_at}
-use Rattle.tree_mount.specs.GoodNumbers.{size_blocks, numbers_from, numbers_of_files, HasGoodNumbers}
-use Rattle.tree_mount.specs.Numbers.{most_blocks}
-use Rattle.tree_mount.proofs.Contained.{none-in, first-or-rest, behind, in-either, any-in, in-left, in-right, in-place, all-of}
-use Rattle.tree_mount.proofs.Tables.{le-holds}
+use Rattle.tree_region.specs.OwnedRows.{number_at}
+use Rattle.tree_region.specs.GoodNumbers.{size_blocks, numbers_from, numbers_of_files, HasGoodNumbers}
+use Rattle.tree_region.specs.Numbers.{most_blocks}
+use Rattle.tree_region.proofs.Contained.{none-in, first-or-rest, behind, in-either, any-in, in-left, in-right, in-place, all-of}
+use Rattle.tree_region.proofs.Tables.{le-holds}
 
 -- ---- distinct numbers of a list
 

@@ -1,7 +1,7 @@
 -- Rows of numbers of which one is replaced.
 use Rattle.std.proofs.Common.{◌≡◌, ◌≢◌, ◌⊎◌, inl, inr, ℕ, zero, suc, ◌<◌, List, [], ◌∷◌, length, refl, sym, ap, ◌∙◌, get_or-set_other, get_or-set_same}
 use Rattle.std.specs.Prelude.{slice_index_or, slice_set}
-use Rattle.free_blocks.specs.Rows.{number_at, with_number}
+use Rattle.tree_region.specs.OwnedRows.{number_at, with_number}
 
 -- what stands at a place of a list with another item
 pub set-either : {A : Type 0} (xs : List A) (i : ℕ) (x d : A) (j : ℕ) → (slice_index_or (slice_set xs i x) j d ≡ slice_index_or xs j d) ⊎ ((j ≡ i) × (slice_index_or (slice_set xs i x) j d ≡ x))

@@ -1,3 +1,10 @@
+pub mod Changes
+pub mod ContentRefusals
+pub mod Entries
+pub mod Mounted
+pub mod NameRefusals
+pub mod Names
 pub mod Numbers
 pub mod State
 pub mod Stored
+pub mod Writes

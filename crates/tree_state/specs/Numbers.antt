@@ -1,8 +1,8 @@
 -- Block numbers of files beside the sizes of their durable contents.
 use Rattle.std.specs.Prelude.{◌≡◌, ℕ, ◌≤◌, List}
 use Rattle.file_tree.specs.Entries.{TreeValue}
-use Rattle.free_blocks.specs.Rows.{number_at}
-use Rattle.tree_mount.specs.GoodNumbers.{size_blocks}
+use Rattle.tree_region.specs.OwnedRows.{number_at}
+use Rattle.tree_region.specs.GoodNumbers.{size_blocks}
 
 -- behind the durable size of each file all its durable numbers are 0
 abbrev pub AreZeroBehind : TreeValue → List (List ℕ) → Type 0

@@ -6,12 +6,12 @@ use Rattle.apex_model.specs.Layout.{body_blocks}
 use Rattle.block_pool.specs.Lists.{node_count}
 use Rattle.block_quota.specs.Quota.{ChargesValue, charge_of, total}
 use Rattle.file_tree.specs.Entries.{TreeValue, slot}
-use Rattle.free_blocks.specs.Rows.{AreApart, AreNamedUsed}
+use Rattle.tree_region.specs.OwnedRows.{AreApart, AreNamedUsed}
 use Rattle.present_files.specs.Present.{IsPresent, size_in, changes_in}
 use Rattle.present_files.specs.declared.present.PresentSize.{PresentSize}
 use Rattle.rig_core.specs.Outside.{Outside}
-use Rattle.tree_changes.specs.InStep.{InStep}
-use Rattle.tree_mount.specs.GoodNumbers.{size_blocks}
+use Rattle.tree_region.specs.InStep.{InStep}
+use Rattle.tree_region.specs.GoodNumbers.{size_blocks}
 use Rattle.tree_state.specs.Numbers.{AreZeroBehind}
 use Rattle.tree_state.specs.declared.state.TreeState.{TreeState}
 

@@ -6,8 +6,8 @@ use Rattle.apex_model.specs.Durable.{StoredFile}
 use Rattle.apex_model.specs.Image.{tree_of_region}
 use Rattle.apex_model.specs.Trees.{Name, Tree, file, with_node}
 use Rattle.present_files.specs.Present.{content_of, changes_of}
-use Rattle.tree_changes.specs.InStep.{data_at}
-use Rattle.tree_mount.specs.Region.{region_at, tree_over}
+use Rattle.tree_region.specs.InStep.{data_at}
+use Rattle.tree_region.specs.Region.{region_at, tree_over}
 use Rattle.tree_state.specs.declared.state.TreeState.{TreeState}
 
 -- the durable tree, over the bytes that reads give: the names with the synchronised contents

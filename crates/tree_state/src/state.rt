@@ -1,7 +1,7 @@
 // What is kept in memory of a stored tree.
 use block_quota::Charges;
 use present_files::Present;
-use tree_mount::TreeRegion;
+use tree_region::TreeRegion;
 
 /// What is kept in memory of a tree that is stored in a region of a device.
 #[derive(Drop)]

@@ -9,7 +9,7 @@ use Rattle.apex_types.specs.declared.codes.Errno.TheVariants.{Efbig, Enospc, Eov
 use Rattle.file_tree.proofs.Changes.{is_some, slot-within}
 use Rattle.file_tree.proofs.Ways.{not_some}
 use Rattle.present_files.specs.declared.present.PresentSize.{PresentSize}
-use Rattle.state_contents.specs.Refusals.{content_refusal}
+use Rattle.tree_state.specs.ContentRefusals.{content_refusal}
 use Rattle.apex_types.specs.declared.numbers.FileNode.{FileNode}
 use Rattle.apex_types.specs.declared.rows.TreeRow.{TreeRow}
 use Rattle.apex_model.specs.Durable.{StoredFile}
@@ -21,10 +21,10 @@ use Rattle.file_tree.specs.Entries.{TreeValue, slot, IsConsistent}
 use Rattle.present_files.specs.Present.{size_in, changes_in, changes_of, content_of, never_changed}
 use Rattle.rig_core.specs.Outside.{Outside, Sound}
 use Rattle.rig_core.proofs.Moments.{elsewhere_wider, leaves_elsewhere_wider, leaves_weaker}
-use Rattle.tree_changes.specs.InStep.{data_at, slots_long}
-use Rattle.tree_mount.specs.Region.{region_at}
+use Rattle.tree_region.specs.InStep.{data_at, slots_long}
+use Rattle.tree_region.specs.Region.{region_at}
 use Rattle.tree_state.specs.declared.state.TreeState.{TreeState}
-use Rattle.state_contents.specs.Changes.{StaysDurable, IsChanged, IsUnchanged}
+use Rattle.tree_state.specs.Changes.{StaysDurable, IsChanged, IsUnchanged}
 use Rattle.rig_core.specs.Runs.{Runs, Shows}
 use Rattle.store_model.specs.Betweens.{IsTreeAt, tree_long}
 use Rattle.store_model.specs.Stores.{KeptFile, StoreValue, nothing_kept, kept_at, charge_at, total, durable_of, durable_entry, change_refusal, changed_store, IsSound}

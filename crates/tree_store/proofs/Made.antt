@@ -8,8 +8,8 @@ use Rattle.apex_model.specs.Handles.{free_from}
 use Rattle.apex_model.specs.Trees.{Name, Node, directory, entries_within, file, with_node, without_node}
 use Rattle.file_tree.specs.Entries.{IsConsistent, TreeValue, path_in, way_of, with_directory, with_file, without_directory}
 use Rattle.rig_core.specs.Outside.{Outside}
-use Rattle.state_names.proofs.Applies.{moved-kept, unused-slot}
-use Rattle.state_names.specs.Entries.{empty_file}
+use Rattle.tree_state.proofs.Applies.{moved-kept, unused-slot}
+use Rattle.tree_state.specs.Entries.{empty_file}
 use Rattle.tree_state.specs.Stored.{SameContents, durable_tree}
 use Rattle.tree_state.specs.declared.state.TreeState.{TreeState}
 use Rattle.store_model.specs.Stores.{StoreValue, durable_of, with_names}

@@ -20,10 +20,10 @@ use Rattle.present_files.specs.Present.{never_changed, room_bytes}
 use Rattle.present_files.specs.declared.present.PresentSize.{PresentSize}
 use Rattle.present_files.proofs.DataBlocks.{block-long}
 use Rattle.rig_core.specs.Outside.{Outside}
-use Rattle.state_mount.specs.Mounted.{AreStoredCharges, AreStoredSizes}
+use Rattle.tree_state.specs.Mounted.{AreStoredCharges, AreStoredSizes}
 use Rattle.store_model.proofs.Names.{path-of-file}
-use Rattle.tree_changes.specs.InStep.{data_at}
-use Rattle.tree_mount.specs.Region.{stored_file, stored_node, tree_over}
+use Rattle.tree_region.specs.InStep.{data_at}
+use Rattle.tree_region.specs.Region.{stored_file, stored_node, tree_over}
 use Rattle.tree_state.specs.Stored.{present_file}
 use Rattle.store_model.specs.Stores.{KeptFile, StoreValue, nothing_kept, kept_at, charge_at, durable_node, durable_of, synchronised_kept, IsSound}
 use Rattle.tree_store.specs.Stored.{row_of, start_of, site_of, names_of, size_at, changes_at, charges_of, content_over, durable_over, IsStored, Holds, IsLoaded}

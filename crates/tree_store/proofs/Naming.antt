@@ -13,12 +13,12 @@ use Rattle.present_files.specs.Present.{changes_in, size_in}
 use Rattle.present_files.specs.declared.present.Present.{Present}
 use Rattle.rig_core.specs.Outside.{Later, Outside}
 use Rattle.rig_core.proofs.Moments.{elsewhere_wider, leaves_elsewhere_wider, leaves_weaker}
-use Rattle.tree_changes.specs.InStep.{HasRoom, slots_long}
+use Rattle.tree_region.specs.InStep.{HasRoom, slots_long}
 use Rattle.tree_state.specs.State.{IsState}
 use Rattle.tree_state.specs.Stored.{IsTreeOf, SameContents, durable_tree}
 use Rattle.tree_state.specs.declared.state.TreeState.{TreeState}
-use Rattle.state_names.specs.Names.{ChangesTree}
-use Rattle.state_names.proofs.States.{nothing-changed}
+use Rattle.tree_state.specs.Names.{ChangesTree}
+use Rattle.tree_state.proofs.NameStates.{nothing-changed}
 use Rattle.store_model.specs.Betweens.{tree_long}
 use Rattle.store_model.specs.Stores.{StoreValue, durable_of, with_names}
 use Rattle.tree_store.specs.Answers.{Acts, Passes, name_calls}

@@ -14,7 +14,7 @@ use Rattle.file_tree.proofs.Paths.{found_stands, sorted_nodes}
 use Rattle.present_files.specs.Present.{changes_in, content_of, never_changed, size_in}
 use Rattle.present_files.specs.declared.present.PresentSize.{PresentSize}
 use Rattle.rig_core.specs.Outside.{Outside}
-use Rattle.tree_changes.specs.InStep.{data_at}
+use Rattle.tree_region.specs.InStep.{data_at}
 use Rattle.tree_state.specs.State.{IsState}
 use Rattle.tree_state.specs.Stored.{durable_tree}
 use Rattle.tree_state.specs.declared.state.TreeState.{TreeState}

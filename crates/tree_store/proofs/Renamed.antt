@@ -9,8 +9,8 @@ use Rattle.apex_model.specs.Trees.{Name, Node, Tree, file, path_cmp, standing_at
 use Rattle.file_tree.specs.Entries.{IsConsistent, TreeValue, in_file, path_in, slot, with_file_at}
 use Rattle.file_tree.proofs.Paths.{at_found}
 use Rattle.rig_core.specs.Outside.{Outside}
-use Rattle.state_names.proofs.Applies.{moved-kept}
-use Rattle.state_names.specs.Names.{durable_file}
+use Rattle.tree_state.proofs.Applies.{moved-kept}
+use Rattle.tree_state.specs.Names.{durable_file}
 use Rattle.tree_state.specs.Stored.{SameContents, durable_tree}
 use Rattle.tree_state.specs.declared.state.TreeState.{TreeState}
 use Rattle.store_model.specs.Stores.{IsSound, StoreValue, durable_node, durable_of, kept_at, with_names}

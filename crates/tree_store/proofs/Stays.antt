@@ -9,9 +9,9 @@ use Rattle.rig_core.specs.Leaves.{SpeaksOf}
 use Rattle.rig_core.specs.Outside.{Outside, Sound}
 use Rattle.rig_core.proofs.Put.{part_same}
 use Rattle.present_files.specs.Present.{content_of}
-use Rattle.tree_changes.specs.InStep.{InStep, SameNamed, data_at, slots_long}
-use Rattle.tree_changes.proofs.Beside.{stands-same}
-use Rattle.tree_mount.specs.Region.{region_at, data_of, tree_over}
+use Rattle.tree_region.specs.InStep.{InStep, SameNamed, data_at, slots_long}
+use Rattle.tree_region.proofs.Beside.{stands-same}
+use Rattle.tree_region.specs.Region.{region_at, data_of, tree_over}
 use Rattle.tree_state.specs.State.{IsState}
 use Rattle.rig_core.specs.Runs.{StaysWithin, SpeaksOfBoth}
 use Rattle.rig_core.proofs.Beside.{both_stay, settled_stays, stays_part, within_part}

@@ -25,8 +25,8 @@ use Rattle.present_files.proofs.DataBlocks.{block-long}
 use Rattle.present_files.proofs.Joined.{AreWhole, joined_from}
 use Rattle.present_files.proofs.Rooms.{blocks-whole}
 use Rattle.rig_core.specs.Outside.{Outside, Sound}
-use Rattle.tree_changes.specs.InStep.{data_at}
-use Rattle.tree_mount.specs.Region.{region_at}
+use Rattle.tree_region.specs.InStep.{data_at}
+use Rattle.tree_region.specs.Region.{region_at}
 use Rattle.store_model.specs.Standing.{IsNode, IsEntry, IsTree}
 use Rattle.store_model.specs.Stores.{StoreValue, kept_at}
 use Rattle.tree_store.specs.Stored.{row_of, start_of, size_at, content_over, IsStored, Holds}

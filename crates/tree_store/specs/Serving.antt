@@ -1,9 +1,8 @@
 -- When stored trees and handles stand for a file system, and what a call to the services comes to.
-use Rattle.std.specs.Prelude.{◌≡◌, ◌⊎◌, ℕ, ◌+◌, ◌*◌, List, [], ◌∷◌, map, length, Result, IfOk, OnOk, OnErr}
+use Rattle.std.specs.Prelude.{◌≡◌, ℕ, ◌+◌, ◌*◌, List, [], ◌∷◌, map, length}
 use Rattle.std.specs.List.{AllByRecursion, AllZip}
 use Rattle.apex_types.specs.Rows.{Rows}
 use Rattle.apex_types.specs.declared.codes.Errno.TheVariants.{Eio}
-use Rattle.apex_types.specs.declared.codes.StepFault.{StepFault}
 use Rattle.apex_types.specs.declared.replies.Reply.{Reply}
 use Rattle.apex_types.specs.declared.replies.Values.{Values}
 use Rattle.apex_types.specs.declared.rows.TreeRow.{TreeRow}
@@ -12,11 +11,9 @@ use Rattle.apex_model.specs.Layout.{tree_start}
 use Rattle.apex_model.specs.Outcomes.{Outcome, accepted, refusal, reply_of, state_after}
 use Rattle.apex_model.specs.Validity.{IsValidFileSystem}
 use Rattle.open_handles.specs.NodeHandles.{AllHandles}
-use Rattle.rig_core.specs.Causes.{Rose}
 use Rattle.rig_core.specs.Outside.{Outside}
-use Rattle.rig_core.specs.Runs.{Runs, Shows}
-use Rattle.rig_core.specs.Windows.{Window, AreWithin}
-use Rattle.store_model.specs.Betweens.{TreeSite, tree_long, AreTreesBetween}
+use Rattle.rig_core.specs.Windows.{Window}
+use Rattle.store_model.specs.Betweens.{TreeSite, tree_long}
 use Rattle.store_model.specs.Stores.{StoreValue}
 use Rattle.store_model.specs.Systems.{Stands}
 use Rattle.tree_store.specs.Stored.{site_of, IsStored, Holds}
@@ -74,16 +71,3 @@ pub record IsUnread (tells_view reads : Type 0) (step : FileSystem → Outcome F
   pub told_is : told ≡ refusal Eio
   pub cause : reads
   pub unchanged : (fs : FileSystem) → StandOver tells_view o trees handles fs → IsAccepting (step fs) × StandOver tells_view e new_trees new_handles fs
-
--- A call was served on a rig that went from o to e. Only a write or sync that failed is a fault.
-pub record IsServed (tells_view : Type 0) (step : FileSystem → Outcome FileSystem) (reads : Type 0) (writes syncs : ℕ) (trees new_trees : List TreeStore) (handles new_handles : AllHandles)
-    (o e : Outside) (result : Result Reply StepFault) : Type 0 where
-  pub told : IfOk result (λ told. IsAnswered tells_view step trees new_trees handles new_handles o e told ⊎ IsUnread tells_view reads step trees new_trees handles new_handles o e told)
-  -- at every moment a cut leaves each tree as before or as after, each by itself
-  pub moments : (fs : FileSystem) → StandOver tells_view o trees handles fs → Shows tells_view (AreTreesBetween (sites_of trees) fs.trees (state_after fs (step fs)).trees) o e
-  pub stored : OnOk result (AreStored tells_view e new_trees)
-  pub sites : sites_of new_trees ≡ sites_of trees
-  pub partitions : length new_handles ≡ length handles
-  -- all of it within the regions of trees
-  pub runs : (at n : ℕ) → AreWithin at n (map window_of (sites_of trees)) → Runs tells_view at n writes syncs o e
-  pub cause : OnErr result (Rose o.write_faults e.write_faults)

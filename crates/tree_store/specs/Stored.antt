@@ -11,7 +11,7 @@ pub use Rattle.file_tree.specs.Entries.{AreSpelled}
 use Rattle.meta_journal.specs.Journal as journal
 use Rattle.present_files.specs.Present.{size_in, changes_in, content_of, free_buffers}
 use Rattle.rig_core.specs.Outside.{Outside}
-use Rattle.tree_changes.specs.InStep.{data_at}
+use Rattle.tree_region.specs.InStep.{data_at}
 use Rattle.tree_state.specs.State.{IsState}
 use Rattle.tree_state.specs.Stored.{durable_tree}
 use Rattle.store_model.specs.Betweens.{TreeSite, IsTreeAt, tree_long}

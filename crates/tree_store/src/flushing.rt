@@ -25,7 +25,7 @@ impl TreeStore {
             (Rose (R.state rig.old).write_faults (R.state rig.new).write_faults) }
     {
         let buffers = u32::from(self.row.dirty);
-        state_flush::write_back(&mut self.state, rig, &self.row, self.start, buffers)?;
+        tree_state::write_back(&mut self.state, rig, &self.row, self.start, buffers)?;
         Ok(())
     }
 }

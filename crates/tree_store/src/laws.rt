@@ -3,7 +3,7 @@ ghost use Rattle.std.specs.Prelude.{◌≤◌};
 ghost use Rattle.apex_model.specs.Files.{File};
 ghost use Rattle.apex_model.specs.Trees.{Tree};
 ghost use Rattle.apex_model.specs.Unwritten.{unwritten};
-ghost use Rattle.tree_mount.specs.Region.{region_at};
+ghost use Rattle.tree_region.specs.Region.{region_at};
 ghost use Rattle.store_model.specs.Standing.{IsTree};
 ghost use Rattle.store_model.specs.Stores.{StoreValue};
 

@@ -34,7 +34,7 @@ impl TreeStore {
         ensures acts { Acts R.tells_view 4 3 (R.state rig.old) (R.state rig.new) self.old self.new }
         ensures rises { RisesBy R.keeps_cuts (R.state rig.old) (R.state rig.new) self.old result }
     {
-        match state_names::make_file(&mut self.state, rig, &self.row, self.start, parent, name) {
+        match tree_state::make_file(&mut self.state, rig, &self.row, self.start, parent, name) {
             Ok(file) => {
                 self.state.kept.tree.stand();
                 Ok(file)
@@ -59,15 +59,16 @@ impl TreeStore {
         requires free { IsFree self.old parent.0 name }
         ensures node { IfOk result (λ directory.
             free_from 1 (names_of self.old).directories ≡ Some directory.0) }
-        ensures answer { NamesTo R.tells_view directory_refusal (λ v. made_directory v parent.0 name)
-            (rig.new ≡ rig.old) (R.state rig.old) (R.state rig.new) self.old self.new result }
+        ensures answer { NamesTo R.tells_view directory_refusal
+            (λ v. made_directory v parent.0 name) (rig.new ≡ rig.old)
+            (R.state rig.old) (R.state rig.new) self.old self.new result }
         ensures moments { PassesAll R.tells_view self.old (λ v. made_directory v parent.0 name)
             (R.state rig.old) (R.state rig.new) }
         ensures stored { UnlessDevice result (IsStored R.tells_view (R.state rig.new) self.new) }
         ensures acts { Acts R.tells_view 4 3 (R.state rig.old) (R.state rig.new) self.old self.new }
         ensures rises { RisesBy R.keeps_cuts (R.state rig.old) (R.state rig.new) self.old result }
     {
-        match state_names::make_dir(&mut self.state, rig, &self.row, self.start, parent, name) {
+        match tree_state::make_dir(&mut self.state, rig, &self.row, self.start, parent, name) {
             Ok(directory) => {
                 self.state.kept.tree.stand();
                 Ok(directory)

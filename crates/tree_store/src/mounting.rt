@@ -7,14 +7,14 @@ ghost use Rattle.apex_model.specs.Trees.{Tree};
 ghost use Rattle.rig_core.specs.Causes.{Rose};
 ghost use Rattle.rig_core.specs.Leaves.{IsAllSettled};
 ghost use Rattle.rig_core.specs.Outside.{OnlyReads};
-ghost use Rattle.tree_mount.specs.Region.{region_at};
+ghost use Rattle.tree_region.specs.Region.{region_at};
 
 use crate::store::TreeStore;
 use apex_types::{Readers, TreeRow};
 use rig_core::Rig;
-use state_mount::mount_state;
 use std::alloc::Global;
-use tree_mount::MountStop;
+use tree_region::MountStop;
+use tree_state::mount_state;
 
 /// The same readers once more.
 fn readers_of(row: &TreeRow) -> Readers

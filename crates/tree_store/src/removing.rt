@@ -31,7 +31,7 @@ impl TreeStore {
         ensures acts { Acts R.tells_view 4 3 (R.state rig.old) (R.state rig.new) self.old self.new }
         ensures rises { RisesBy R.keeps_cuts (R.state rig.old) (R.state rig.new) self.old result }
     {
-        match state_names::remove_dir(&mut self.state, rig, &self.row, self.start, directory) {
+        match tree_state::remove_dir(&mut self.state, rig, &self.row, self.start, directory) {
             Ok(()) => {
                 self.state.kept.tree.stand();
                 Ok(())
@@ -55,7 +55,7 @@ impl TreeStore {
         ensures acts { Acts R.tells_view 4 3 (R.state rig.old) (R.state rig.new) self.old self.new }
         ensures rises { RisesBy R.keeps_cuts (R.state rig.old) (R.state rig.new) self.old result }
     {
-        state_names::remove_file(&mut self.state, rig, &self.row, self.start, file)?;
+        tree_state::remove_file(&mut self.state, rig, &self.row, self.start, file)?;
         self.state.kept.tree.stand();
         Ok(())
     }

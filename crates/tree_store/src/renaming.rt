@@ -31,7 +31,7 @@ impl TreeStore {
         ensures acts { Acts R.tells_view 4 3 (R.state rig.old) (R.state rig.new) self.old self.new }
         ensures rises { RisesBy R.keeps_cuts (R.state rig.old) (R.state rig.new) self.old result }
     {
-        state_names::rename(
+        tree_state::rename(
             &mut self.state,
             rig,
             &self.row,

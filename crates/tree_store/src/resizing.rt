@@ -33,7 +33,7 @@ impl TreeStore {
         ensures acts { Acts R.tells_view (row_of self.old).dirty 0
             (R.state rig.old) (R.state rig.new) self.old self.new }
     {
-        match state_contents::resize(&mut self.state, rig, &self.row, self.start, file, size) {
+        match tree_state::resize(&mut self.state, rig, &self.row, self.start, file, size) {
             Ok(()) => Ok(()),
             Err(StateRefusal::Refused(errno)) => Err(StoreRefusal::Refused(errno)),
             Err(StateRefusal::ReadFault) => Err(StoreRefusal::ReadFault),

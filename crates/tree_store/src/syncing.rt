@@ -8,7 +8,7 @@ ghost use Rattle.tree_store.specs.Answers.{IsDone, Acts, PassesAll};
 use crate::store::TreeStore;
 use apex_types::FileNode;
 use rig_core::{DeviceFault, Rig};
-use state_sync::sync_file;
+use tree_state::sync_file;
 
 impl TreeStore {
     ghost use Rattle.tree_store.specs.Stored.{row_of, names_of, IsStored, Holds};

@@ -107,14 +107,15 @@ impl Trees {
         ensures count { AtTree self.now tree (λ store.
             IfOk result (λ n. n ≡ min (length into.old) (size_at store file.0 - from))) }
         ensures bytes { R.tells_view → (stores : List StoreValue)
-            → AllHold R.tells_view (R.state rig.old) self.now stores → IfOk result (λ n.
-            into.new ≡ read_at (kept_at (store_at stores tree) file.0).content from (length into.old)
+            → AllHold R.tells_view (R.state rig.old) self.now stores → IfOk result (λ n. into.new
+            ≡ read_at (kept_at (store_at stores tree) file.0).content from (length into.old)
             ++ drop n into.old) }
         ensures long { length into.new ≡ length into.old }
         ensures stored { AreStored R.tells_view (R.state rig.new) self.now }
         ensures held { StayHeld R.tells_view (R.state rig.old) (R.state rig.new) self.now self.now }
         ensures reads { OnlyReads R.tells_view (R.state rig.old) (R.state rig.new) }
-        ensures cause { OnErr result (Rose (R.state rig.old).read_faults (R.state rig.new).read_faults) }
+        ensures cause { OnErr result
+            (Rose (R.state rig.old).read_faults (R.state rig.new).read_faults) }
     {
         self.get(tree).read(rig, file, from, into)
     }
@@ -186,7 +187,8 @@ impl Trees {
             (R.state rig.old) (R.state rig.new) }
         ensures stored { OnOk result (AreStored R.tells_view (R.state rig.new) self.new) }
         ensures settled { OnOk result (IsAllSettled (R.state rig.new)) }
-        ensures acts { AtTree self.old tree (λ store. ActsAt R.tells_view ((row_of store).dirty + 4) 3
+        ensures acts { AtTree self.old tree (λ store.
+            ActsAt R.tells_view ((row_of store).dirty + 4) 3
             (R.state rig.old) (R.state rig.new) self.old self.new) }
     {
         self.stores[tree as usize].sync(rig, file)
@@ -212,7 +214,8 @@ impl Trees {
         ensures moments { PassesAt R.tells_view tree self.old (λ v. made_file v parent.0 name)
             (R.state rig.old) (R.state rig.new) }
         ensures stored { UnlessDevice result (AreStored R.tells_view (R.state rig.new) self.new) }
-        ensures acts { ActsAt R.tells_view 4 3 (R.state rig.old) (R.state rig.new) self.old self.new }
+        ensures acts { ActsAt R.tells_view 4 3 (R.state rig.old) (R.state rig.new)
+            self.old self.new }
     {
         self.stores[tree as usize].make_file(rig, parent, name)
     }
@@ -238,7 +241,8 @@ impl Trees {
         ensures moments { PassesAt R.tells_view tree self.old (λ v. made_directory v parent.0 name)
             (R.state rig.old) (R.state rig.new) }
         ensures stored { UnlessDevice result (AreStored R.tells_view (R.state rig.new) self.new) }
-        ensures acts { ActsAt R.tells_view 4 3 (R.state rig.old) (R.state rig.new) self.old self.new }
+        ensures acts { ActsAt R.tells_view 4 3 (R.state rig.old) (R.state rig.new)
+            self.old self.new }
     {
         self.stores[tree as usize].make_dir(rig, parent, name)
     }
@@ -260,7 +264,8 @@ impl Trees {
         ensures moments { PassesAt R.tells_view tree self.old (λ v. removed_directory v directory.0)
             (R.state rig.old) (R.state rig.new) }
         ensures stored { UnlessDevice result (AreStored R.tells_view (R.state rig.new) self.new) }
-        ensures acts { ActsAt R.tells_view 4 3 (R.state rig.old) (R.state rig.new) self.old self.new }
+        ensures acts { ActsAt R.tells_view 4 3 (R.state rig.old) (R.state rig.new)
+            self.old self.new }
     {
         self.stores[tree as usize].remove_dir(rig, directory)
     }
@@ -279,7 +284,8 @@ impl Trees {
         ensures moments { PassesAt R.tells_view tree self.old (λ v. removed_file v file.0)
             (R.state rig.old) (R.state rig.new) }
         ensures stored { OnOk result (AreStored R.tells_view (R.state rig.new) self.new) }
-        ensures acts { ActsAt R.tells_view 4 3 (R.state rig.old) (R.state rig.new) self.old self.new }
+        ensures acts { ActsAt R.tells_view 4 3 (R.state rig.old) (R.state rig.new)
+            self.old self.new }
     {
         self.stores[tree as usize].remove_file(rig, file)
     }
@@ -304,7 +310,8 @@ impl Trees {
         ensures moments { PassesAt R.tells_view tree self.old
             (λ v. renamed_file v file.0 parent.0 name) (R.state rig.old) (R.state rig.new) }
         ensures stored { OnOk result (AreStored R.tells_view (R.state rig.new) self.new) }
-        ensures acts { ActsAt R.tells_view 4 3 (R.state rig.old) (R.state rig.new) self.old self.new }
+        ensures acts { ActsAt R.tells_view 4 3 (R.state rig.old) (R.state rig.new)
+            self.old self.new }
     {
         self.stores[tree as usize].rename(rig, file, parent, name)
     }

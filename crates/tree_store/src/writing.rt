@@ -36,7 +36,7 @@ impl TreeStore {
         ensures acts { Acts R.tells_view (row_of self.old).dirty 0
             (R.state rig.old) (R.state rig.new) self.old self.new }
     {
-        match state_contents::write(
+        match tree_state::write(
             &mut self.state,
             rig,
             &self.row,

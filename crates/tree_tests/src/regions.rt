@@ -7,7 +7,7 @@ use apex_types::{CallKind, FailList, FileNode, Path, Spot};
 use std::alloc::Global;
 use std::test::Fail;
 use test_fixtures::{failing, put};
-use tree_mount::{MountStop, TreeRegion, mount};
+use tree_region::{MountStop, TreeRegion, mount};
 
 // The directory D, and in it the file A with 600 bytes in the data blocks 2 and 3. The journal makes the file B, and
 // moves D/A to C.

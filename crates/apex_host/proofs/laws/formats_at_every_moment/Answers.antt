@@ -2,4 +2,4 @@ use Rattle.apex_host.proofs.EndLaws.{moments}
 use Rattle.apex_host.proofs.laws.formats_at_every_moment.Goals as goal
 
 pub returns : goal.returns
-returns g c = λ before after status bytes rows accepted leaves. moments bytes rows accepted leaves
+returns g c = λ before after status bytes script rows accepted leaves. moments bytes rows accepted leaves

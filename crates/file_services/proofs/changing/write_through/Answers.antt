@@ -1,46 +1,133 @@
-use Rattle.std.proofs.Common.{◌+◌, ◌≤◌, Ok, Err, subst, sym, ◌∙◌, ap, refl, IsSome, length, arith}
-use Rattle.apex_model.specs.Files.{written}
+use Rattle.std.proofs.Common.{◌≡◌, ◌+◌, ◌∙◌, ap, refl, length, arith}
+use Rattle.std.specs.Prelude.{true, slice_set}
+use Rattle.apex_model.specs.FileStep.{write_file}
 use Rattle.apex_model.specs.Outcomes.{refusal}
-use Rattle.file_tree.specs.Entries.{slot}
-use Rattle.store_model.specs.Stores.{StoreValue, kept_at}
-use Rattle.store_model.proofs.SystemsFiles.{position-within, position-few}
-use Rattle.memory_store.specs.Refusals.{IsChange}
-use Rattle.memory_store.specs.declared.refusal.StoreRefusal.TheVariants.{Refused}
-use Rattle.service_parts.proofs.Served.{served-new}
-use Rattle.file_services.proofs.Held.{held-within, held-used, moved-handles, same-stores}
-use Rattle.file_services.proofs.ChangingLaws.{write-refused, write-done}
+use Rattle.store_model.specs.Systems.{store_at}
+use Rattle.rig_core.specs.Causes.{Rose}
+use Rattle.tree_store.specs.Answers.{write_refusal, written_store}
+use Rattle.service_parts.specs.Serving.{ReadsFailed}
+use Rattle.service_parts.proofs.Closing.{acts_writing, at_device, at_refused, at_unread, passes_same, served_acts, served_fault, served_refused, served_unread}
+use Rattle.service_parts.proofs.Held.{of_table_held, ready_at, seen}
+use Rattle.service_parts.proofs.Served.{accepting, served-new, served-told}
+use Rattle.file_services.proofs.Held.{held-in_use, held-low, held-position, held-tree, moved-handles}
+use Rattle.file_services.proofs.ChangingLaws.{write-refused, write-goes, write-done}
 use Rattle.file_services.proofs.changing.write_through.Goals as goal
 
-pub get_mut-store-requires : goal.get_mut-store-requires
-get_mut-store-requires g c = held-within c.args.trees.now c.args.handles.now c.args.p.0 c.args.id c.args.handle c.args.file c.requires.held c.requires.has_file (c.requires.serving.1.0, c.requires.serving.1.1)
+pub write-requires-clause-ready : goal.write-requires-clause-ready
+write-requires-clause-ready g c =
+    let V = g.R.Rig.tells_view in
+    let K = g.R.Rig.keeps_cuts in
+    let o = g.R.Rig.state c.args.rig.now in
+    let trees = c.args.trees.now in
+    let handles = c.args.handles.now in
+    ready_at V o trees handles c.requires.serving c.args.handle.tree
+    (held-tree trees handles c.args.p.0 c.args.id c.args.handle c.args.file c.requires.held c.requires.has_file (seen V o trees handles c.requires.serving))
 
 pub write-requires-clause-in_use : goal.write-requires-clause-in_use
 write-requires-clause-in_use g c =
-    let Q : StoreValue → Type 0 = λ v. IsSome (slot v.tree.files c.args.file.0) in
-    subst Q (sym c.get_mut-store.ensures.value) (held-used c.args.trees.now c.args.handles.now c.args.p.0 c.args.id c.args.handle c.args.file c.requires.held c.requires.has_file (c.requires.serving.1.0, c.requires.serving.1.1))
+    let V = g.R.Rig.tells_view in
+    let K = g.R.Rig.keeps_cuts in
+    let o = g.R.Rig.state c.args.rig.now in
+    let trees = c.args.trees.now in
+    let handles = c.args.handles.now in
+    held-in_use trees handles c.args.p.0 c.args.id c.args.handle c.args.file c.requires.held c.requires.has_file (seen V o trees handles c.requires.serving)
 
 -- the position of a handle that may write is within its file
 pub write-requires-clause-within : goal.write-requires-clause-within
 write-requires-clause-within g c =
-    let Q : StoreValue → Type 0 = λ v. c.args.handle.position ≤ length (kept_at v c.args.file.0).content in
-    subst Q (sym c.get_mut-store.ensures.value)
-    (position-within c.args.trees.now c.args.handles.now c.requires.serving.1.0 c.requires.serving.1.1 c.requires.serving.0 c.requires.serving.1.2 c.args.p.0 c.args.id c.args.handle c.args.file c.requires.held c.requires.has_file c.requires.writes)
+    let V = g.R.Rig.tells_view in
+    let K = g.R.Rig.keeps_cuts in
+    let o = g.R.Rig.state c.args.rig.now in
+    let trees = c.args.trees.now in
+    let handles = c.args.handles.now in
+    held-position trees handles c.args.p.0 c.args.id c.args.handle c.args.file c.requires.held c.requires.has_file V o c.requires.serving c.requires.writes
 
 pub overflow_add-handle : goal.overflow_add-handle
 overflow_add-handle g c =
-    let low = position-few c.args.trees.now c.args.handles.now c.requires.serving.1.0 c.requires.serving.1.1 c.requires.serving.0 c.requires.serving.1.2 c.args.p.0 c.args.id c.args.handle c.requires.held in
+    let V = g.R.Rig.tells_view in
+    let K = g.R.Rig.keeps_cuts in
+    let o = g.R.Rig.state c.args.rig.now in
+    let trees = c.args.trees.now in
+    let handles = c.args.handles.now in
+    let low = held-low V o trees handles c.args.p.0 c.args.id c.args.handle c.requires.held c.requires.serving in
     omega (arith, low, c.requires.few)
 
-pub returns-in-Ok-clause-served : goal.returns-in-Ok-clause-served
-returns-in-Ok-clause-served g c = λ table o.
-    let Q : StoreValue → Type 0 = λ v. IsChange v c.args.file.0 (written (kept_at v c.args.file.0).content c.args.handle.position c.args.bytes.now) (Ok c.in-Ok.field-0) c.write.new.self in
-    let change = subst Q c.get_mut-store.ensures.value c.in-Ok.ensures.change in
-    served-new refl (moved-handles c.args.handles.now c.set_position.new.self c.args.p.0 c.args.id (c.args.handle.position + length c.args.bytes.now) c.args.handle c.set_position.ensures c.requires.held) c.success.ensures
-    (write-done table c.args.trees.now c.args.handles.now c.args.p.0 c.args.id c.args.bytes.now o c.args.handle c.args.file c.write.new.self c.requires.held c.requires.has_file c.requires.writes c.requires.some c.requires.few change.0 change.1)
+pub returns-in-Ok : goal.returns-in-Ok
+returns-in-Ok g c = λ table of.
+    let V = g.R.Rig.tells_view in
+    let K = g.R.Rig.keeps_cuts in
+    let o = g.R.Rig.state c.args.rig.now in
+    let trees = c.args.trees.now in
+    let handles = c.args.handles.now in
+    let e = g.R.Rig.state c.write.new.rig in
+    let ready = c.requires.serving in
+    let k = c.args.handle.tree in
+    let within = held-tree trees handles c.args.p.0 c.args.id c.args.handle c.args.file c.requires.held c.requires.has_file (seen V o trees handles ready) in
+    served_acts V K o e (g.met.R.Rig.sound c.args.rig.now) (g.met.R.Rig.sound c.write.new.rig) (λ fs. write_file table fs c.args.p.0 c.args.id c.args.bytes.now) (ReadsFailed true o e) trees handles ready
+    c.write.new.self (acts_writing V o e trees c.write.new.self handles ready k within c.write.ensures.acts) (passes_same V o e (λ fs. write_file table fs c.args.p.0 c.args.id c.args.bytes.now) trees handles k within c.write.ensures.moments)
+    c.set_position.new.self c.success.result c.in-Ok.ensures.stored
+    (λ stores hold.
+    let answer = c.in-Ok.ensures.answer stores hold in
+    let w = (written_store c.args.file.0 c.args.handle.position c.args.bytes.now) (store_at stores k) in (
+      slice_set stores k w,
+      answer.1,
+      served-new refl (moved-handles handles c.set_position.new.self c.args.p.0 c.args.id (c.args.handle.position + length c.args.bytes.now) c.args.handle c.set_position.ensures c.requires.held) c.success.ensures
+          (write-done table stores handles c.args.p.0 c.args.id c.args.bytes.now (of_table_held V o table trees stores handles of ready.stored hold) c.args.handle c.args.file w c.requires.held c.requires.has_file c.requires.writes c.requires.some c.requires.few answer.0 refl),
+    ))
 
-pub returns-in-Err-Refused-clause-served : goal.returns-in-Err-Refused-clause-served
-returns-in-Err-Refused-clause-served g c = λ table o.
-    let Q : StoreValue → Type 0 = λ v. IsChange v c.args.file.0 (written (kept_at v c.args.file.0).content c.args.handle.position c.args.bytes.now) (Err (Refused c.in-Err-Refused.errno)) c.write.new.self in
-    let change = subst Q c.get_mut-store.ensures.value (rw c.in-Err-Refused.field-0-is at c.in-Err-Refused.ensures.change) in
-    served-new (same-stores c.args.trees.now c.args.handle.tree c.write.new.self change.1) refl (c.refusal.ensures ∙ ap refusal c.in-Err-Refused.errno-is)
-    (write-refused table c.args.trees.now c.args.handles.now c.args.p.0 c.args.id c.args.bytes.now o c.args.handle c.args.file c.in-Err-Refused.errno c.requires.held c.requires.has_file c.requires.writes c.requires.some c.requires.few change.0)
+pub returns-in-Err-Refused : goal.returns-in-Err-Refused
+returns-in-Err-Refused g c = λ table of.
+    let V = g.R.Rig.tells_view in
+    let K = g.R.Rig.keeps_cuts in
+    let o = g.R.Rig.state c.args.rig.now in
+    let trees = c.args.trees.now in
+    let handles = c.args.handles.now in
+    let e = g.R.Rig.state c.write.new.rig in
+    let ready = c.requires.serving in
+    let k = c.args.handle.tree in
+    let within = held-tree trees handles c.args.p.0 c.args.id c.args.handle c.args.file c.requires.held c.requires.has_file (seen V o trees handles ready) in
+    let over = ready.serving.1 in
+    let refused = at_refused (Unit {0}) V k (write_refusal c.args.file.0 c.args.handle.position c.args.bytes.now) (written_store c.args.file.0 c.args.handle.position c.args.bytes.now) (c.write.new.rig ≡ c.args.rig.now) (Rose o.read_faults e.read_faults) o e trees c.write.new.self c.in-Err-Refused.field-0 c.in-Err-Refused.ensures.answer c.in-Err-Refused.errno c.in-Err-Refused.field-0-is in
+    let kept = refused over.0 over.1 in
+    served_refused V K g.R.Rig.state c.args.rig.now c.write.new.rig (g.met.R.Rig.sound c.args.rig.now) (λ fs. write_file table fs c.args.p.0 c.args.id c.args.bytes.now) (ReadsFailed true o e) trees c.write.new.self handles ready c.refusal.result kept.1.0 kept.1.1
+    (λ stores hold.
+    let answer = refused stores hold in
+    served-told (c.refusal.ensures ∙ ap refusal c.in-Err-Refused.errno-is)
+    (write-refused table stores handles c.args.p.0 c.args.id c.args.bytes.now (of_table_held V o table trees stores handles of ready.stored hold) c.args.handle c.args.file c.in-Err-Refused.errno c.requires.held c.requires.has_file c.requires.writes c.requires.some c.requires.few answer.0))
+
+-- a failed read is told, and the position stays
+pub returns-in-Err-ReadFault : goal.returns-in-Err-ReadFault
+returns-in-Err-ReadFault g c = λ table of.
+    let V = g.R.Rig.tells_view in
+    let K = g.R.Rig.keeps_cuts in
+    let o = g.R.Rig.state c.args.rig.now in
+    let trees = c.args.trees.now in
+    let handles = c.args.handles.now in
+    let e = g.R.Rig.state c.write.new.rig in
+    let ready = c.requires.serving in
+    let k = c.args.handle.tree in
+    let within = held-tree trees handles c.args.p.0 c.args.id c.args.handle c.args.file c.requires.held c.requires.has_file (seen V o trees handles ready) in
+    let over = ready.serving.1 in
+    let answer = at_unread (Unit {0}) V k (write_refusal c.args.file.0 c.args.handle.position c.args.bytes.now) (written_store c.args.file.0 c.args.handle.position c.args.bytes.now) (c.write.new.rig ≡ c.args.rig.now) (Rose o.read_faults e.read_faults) o e trees c.write.new.self c.in-Err-ReadFault.field-0 c.in-Err-ReadFault.ensures.answer c.in-Err-ReadFault.field-0-is in
+    served_unread V K o e (g.met.R.Rig.sound c.args.rig.now) (g.met.R.Rig.sound c.write.new.rig) (λ fs. write_file table fs c.args.p.0 c.args.id c.args.bytes.now) (ReadsFailed true o e) trees handles ready
+    c.write.new.self (acts_writing V o e trees c.write.new.self handles ready k within c.write.ensures.acts) (passes_same V o e (λ fs. write_file table fs c.args.p.0 c.args.id c.args.bytes.now) trees handles k within c.write.ensures.moments)
+    c.refusal-in-Err-ReadFault.result c.refusal-in-Err-ReadFault.ensures (answer over.0 over.1).1 c.in-Err-ReadFault.ensures.stored
+    (λ stores hold. (answer stores hold).2)
+    (λ fs over. accepting (write-goes table over.0 handles c.args.p.0 c.args.id c.args.bytes.now (of_table_held V o table trees over.0 handles of ready.stored over.1) c.args.handle c.args.file ((written_store c.args.file.0 c.args.handle.position c.args.bytes.now) (store_at over.0 k)) c.requires.held c.requires.has_file c.requires.writes c.requires.some c.requires.few
+    (answer over.0 over.1).0 refl fs over.2))
+
+pub returns-in-Err-Device : goal.returns-in-Err-Device
+returns-in-Err-Device g c = λ table of.
+    let V = g.R.Rig.tells_view in
+    let K = g.R.Rig.keeps_cuts in
+    let o = g.R.Rig.state c.args.rig.now in
+    let trees = c.args.trees.now in
+    let handles = c.args.handles.now in
+    let e = g.R.Rig.state c.write.new.rig in
+    let ready = c.requires.serving in
+    let k = c.args.handle.tree in
+    let within = held-tree trees handles c.args.p.0 c.args.id c.args.handle c.args.file c.requires.held c.requires.has_file (seen V o trees handles ready) in
+    let over = ready.serving.1 in
+    served_fault V K o e (g.met.R.Rig.sound c.args.rig.now) (g.met.R.Rig.sound c.write.new.rig) (λ fs. write_file table fs c.args.p.0 c.args.id c.args.bytes.now) (ReadsFailed true o e) trees handles ready
+    c.write.new.self (acts_writing V o e trees c.write.new.self handles ready k within c.write.ensures.acts) (passes_same V o e (λ fs. write_file table fs c.args.p.0 c.args.id c.args.bytes.now) trees handles k within c.write.ensures.moments)
+    _ (at_device (Unit {0}) V k (write_refusal c.args.file.0 c.args.handle.position c.args.bytes.now) (written_store c.args.file.0 c.args.handle.position c.args.bytes.now) (c.write.new.rig ≡ c.args.rig.now) (Rose o.read_faults e.read_faults) o e trees c.write.new.self c.in-Err-Device.field-0 c.in-Err-Device.ensures.answer c.in-Err-Device.field-0-is over.0 over.1).1

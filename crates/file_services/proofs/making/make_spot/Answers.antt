@@ -1,25 +1,56 @@
-use Rattle.std.proofs.Common.{refl, subst}
-use Rattle.apex_types.specs.declared.codes.Errno.TheVariants.{Eexist, Eisdir}
+use Rattle.std.proofs.Common.{◌<◌, false, length, subst, arith}
 use Rattle.apex_types.specs.declared.fields.Spot.{Spot}
-use Rattle.apex_model.specs.Outcomes.{refusal}
-use Rattle.file_tree.specs.Entries.{IsSpotAt}
+use Rattle.file_tree.specs.Entries.{TreeValue, IsSpotAt}
 use Rattle.store_model.specs.Systems.{store_at}
-use Rattle.service_parts.proofs.Served.{served-as}
-use Rattle.file_services.proofs.MakingLaws.{make_step, make-directory, make-file}
+use Rattle.tree_store.specs.Stored.{names_of}
+use Rattle.service_parts.specs.Serving.{ReadsFailed}
+use Rattle.service_parts.proofs.Closing.{served_still}
+use Rattle.service_parts.proofs.Held.{all_outlined, at_value, stores_long}
+use Rattle.service_parts.proofs.Served.{served-told}
+use Rattle.file_services.proofs.MakingLaws.{make_step, make-root, make-directory, make-file}
 use Rattle.file_services.proofs.making.make_spot.Goals as goal
 
-pub returns-in-Directory-clause-served : goal.returns-in-Directory-clause-served
-returns-in-Directory-clause-served g c =
-    let P : Spot → Type 0 = λ spot. IsSpotAt (store_at c.args.trees.now c.args.place.tree).tree c.args.place.path.names spot in
-    served-as (make_step c.args.table.now c.args.p.0 c.args.place.tree c.args.place.path.names) c.args.trees.now c.args.handles.now c.args.trees.now c.args.handles.now (refusal Eisdir)
-    c.args.trees.now c.args.handles.now c.refusal-in-Directory.result refl refl c.refusal-in-Directory.ensures
-    (make-directory c.args.table.now c.args.trees.now c.args.handles.now c.args.p.0 c.args.place.tree c.args.place.path.names c.requires.within
-    c.in-Directory.parent c.in-Directory.node c.in-Directory.name (subst P c.in-Directory.is c.requires.found))
+pub make_in-requires-clause-free : goal.make_in-requires-clause-free
+make_in-requires-clause-free g c = λ store at. subst (λ (spot : Spot). IsSpotAt (names_of store) c.args.place.path.names spot) c.in-Free.is (c.requires.found store at)
 
-pub returns-in-File-clause-served : goal.returns-in-File-clause-served
-returns-in-File-clause-served g c =
-    let P : Spot → Type 0 = λ spot. IsSpotAt (store_at c.args.trees.now c.args.place.tree).tree c.args.place.path.names spot in
-    served-as (make_step c.args.table.now c.args.p.0 c.args.place.tree c.args.place.path.names) c.args.trees.now c.args.handles.now c.args.trees.now c.args.handles.now (refusal Eexist)
-    c.args.trees.now c.args.handles.now c.refusal-in-File.result refl refl c.refusal-in-File.ensures
-    (make-file c.args.table.now c.args.trees.now c.args.handles.now c.args.p.0 c.args.place.tree c.args.place.path.names c.requires.within
-    c.in-File.parent c.in-File.node c.in-File.name (subst P c.in-File.is c.requires.found))
+pub returns-in-Root : goal.returns-in-Root
+returns-in-Root g c =
+    let V = g.R.Rig.tells_view in
+    let K = g.R.Rig.keeps_cuts in
+    let o = g.R.Rig.state c.args.rig.now in
+    let trees = c.args.trees.now in
+    let handles = c.args.handles.now in
+    served_still V K o (g.met.R.Rig.sound c.args.rig.now) (make_step c.args.table.now c.args.p.0 c.args.place.tree c.args.place.path.names) (ReadsFailed false o o) trees handles c.requires.serving handles c.refusal.result
+    (λ stores hold. let low = stores_long trees stores (all_outlined V o trees stores hold) in
+    let within : c.args.place.tree < length stores = omega (arith, low, c.requires.within) in
+    let found = at_value trees stores (all_outlined V o trees stores hold) (λ (v : TreeValue). IsSpotAt v c.args.place.path.names c.args.spot) c.args.place.tree c.requires.within c.requires.found in
+    let P : Spot → Type 0 = λ spot. IsSpotAt (store_at stores c.args.place.tree).tree c.args.place.path.names spot in
+    served-told c.refusal.ensures (make-root c.args.table.now stores handles c.args.p.0 c.args.place.tree c.args.place.path.names within (subst P c.in-Root.is found)))
+
+pub returns-in-Directory : goal.returns-in-Directory
+returns-in-Directory g c =
+    let V = g.R.Rig.tells_view in
+    let K = g.R.Rig.keeps_cuts in
+    let o = g.R.Rig.state c.args.rig.now in
+    let trees = c.args.trees.now in
+    let handles = c.args.handles.now in
+    served_still V K o (g.met.R.Rig.sound c.args.rig.now) (make_step c.args.table.now c.args.p.0 c.args.place.tree c.args.place.path.names) (ReadsFailed false o o) trees handles c.requires.serving handles c.refusal-in-Directory.result
+    (λ stores hold. let low = stores_long trees stores (all_outlined V o trees stores hold) in
+    let within : c.args.place.tree < length stores = omega (arith, low, c.requires.within) in
+    let found = at_value trees stores (all_outlined V o trees stores hold) (λ (v : TreeValue). IsSpotAt v c.args.place.path.names c.args.spot) c.args.place.tree c.requires.within c.requires.found in
+    let P : Spot → Type 0 = λ spot. IsSpotAt (store_at stores c.args.place.tree).tree c.args.place.path.names spot in
+    served-told c.refusal-in-Directory.ensures (make-directory c.args.table.now stores handles c.args.p.0 c.args.place.tree c.args.place.path.names within c.in-Directory.parent c.in-Directory.node c.in-Directory.name (subst P c.in-Directory.is found)))
+
+pub returns-in-File : goal.returns-in-File
+returns-in-File g c =
+    let V = g.R.Rig.tells_view in
+    let K = g.R.Rig.keeps_cuts in
+    let o = g.R.Rig.state c.args.rig.now in
+    let trees = c.args.trees.now in
+    let handles = c.args.handles.now in
+    served_still V K o (g.met.R.Rig.sound c.args.rig.now) (make_step c.args.table.now c.args.p.0 c.args.place.tree c.args.place.path.names) (ReadsFailed false o o) trees handles c.requires.serving handles c.refusal-in-File.result
+    (λ stores hold. let low = stores_long trees stores (all_outlined V o trees stores hold) in
+    let within : c.args.place.tree < length stores = omega (arith, low, c.requires.within) in
+    let found = at_value trees stores (all_outlined V o trees stores hold) (λ (v : TreeValue). IsSpotAt v c.args.place.path.names c.args.spot) c.args.place.tree c.requires.within c.requires.found in
+    let P : Spot → Type 0 = λ spot. IsSpotAt (store_at stores c.args.place.tree).tree c.args.place.path.names spot in
+    served-told c.refusal-in-File.ensures (make-file c.args.table.now stores handles c.args.p.0 c.args.place.tree c.args.place.path.names within c.in-File.parent c.in-File.node c.in-File.name (subst P c.in-File.is found)))

@@ -1,34 +1,27 @@
-use Rattle.std.proofs.Common.{subst, sym, IsSome}
-use Rattle.file_tree.specs.Entries.{slot}
-use Rattle.store_model.specs.Stores.{StoreValue}
+use Rattle.std.proofs.Common.{sym}
+use Rattle.service_parts.proofs.Held.{changes_of, size_of}
 use Rattle.service_parts.proofs.Served.{served-told}
-use Rattle.file_services.proofs.Held.{held-within, held-used}
+use Rattle.file_services.proofs.Held.{held-tree}
 use Rattle.file_services.proofs.ReadingLaws.{status-bad_id, status-stale, status-done}
 use Rattle.file_services.proofs.reading.get_file_status.Goals as goal
 
 pub returns-in_default : goal.returns-in_default
-returns-in_default c = served-told c.refusal.ensures (status-bad_id c.args.trees.now c.args.handles.now c.args.p.0 c.args.id (sym c.in_default.ensures))
+returns-in_default c = λ stores all.
+    served-told c.refusal.ensures (status-bad_id stores c.args.handles.now c.args.p.0 c.args.id (sym c.in_default.ensures))
 
 pub returns-in_default-file : goal.returns-in_default-file
-returns-in_default-file c =
-    served-told c.refusal-in_default-file.ensures (status-stale c.args.trees.now c.args.handles.now c.args.p.0 c.args.id c.in-Some.handle (sym c.in-Some.ensures) c.in_default-file.is)
-
-pub get-store-requires : goal.get-store-requires
-get-store-requires c = held-within c.args.trees.now c.args.handles.now c.args.p.0 c.args.id c.in-Some.handle c.in-Some-file.file (sym c.in-Some.ensures) c.in-Some-file.is c.requires.standing
+returns-in_default-file c = λ stores all.
+    served-told c.refusal-in_default-file.ensures (status-stale stores c.args.handles.now c.args.p.0 c.args.id c.in-Some.handle (sym c.in-Some.ensures) c.in_default-file.is)
 
 pub size-size-requires : goal.size-size-requires
-size-size-requires c =
-    let P : StoreValue → Type 0 = λ v. IsSome (slot v.tree.files c.in-Some-file.file.0) in
-    subst P (sym c.get-store.ensures)
-    (held-used c.args.trees.now c.args.handles.now c.args.p.0 c.args.id c.in-Some.handle c.in-Some-file.file (sym c.in-Some.ensures) c.in-Some-file.is c.requires.standing)
+size-size-requires c = held-tree c.args.trees.now c.args.handles.now c.args.p.0 c.args.id c.in-Some.handle c.in-Some-file.file (sym c.in-Some.ensures) c.in-Some-file.is c.requires.seen
 
 pub changes-changes-requires : goal.changes-changes-requires
-changes-changes-requires c =
-    let P : StoreValue → Type 0 = λ v. IsSome (slot v.tree.files c.in-Some-file.file.0) in
-    subst P (sym c.get-store.ensures)
-    (held-used c.args.trees.now c.args.handles.now c.args.p.0 c.args.id c.in-Some.handle c.in-Some-file.file (sym c.in-Some.ensures) c.in-Some-file.is c.requires.standing)
+changes-changes-requires c = held-tree c.args.trees.now c.args.handles.now c.args.p.0 c.args.id c.in-Some.handle c.in-Some-file.file (sym c.in-Some.ensures) c.in-Some-file.is c.requires.seen
 
 pub returns : goal.returns
-returns c =
-    served-told c.success.ensures (status-done c.args.trees.now c.args.handles.now c.args.p.0 c.args.id c.in-Some.handle c.in-Some-file.file c.get-store.result.now c.size-size.result c.changes-changes.result
-    (sym c.in-Some.ensures) c.in-Some-file.is c.get-store.ensures c.size-size.ensures.value c.changes-changes.ensures)
+returns c = λ stores all.
+    let within = held-tree c.args.trees.now c.args.handles.now c.args.p.0 c.args.id c.in-Some.handle c.in-Some-file.file (sym c.in-Some.ensures) c.in-Some-file.is c.requires.seen in
+    served-told c.success.ensures (status-done stores c.args.handles.now c.args.p.0 c.args.id c.in-Some.handle c.in-Some-file.file c.size-size.result c.changes-changes.result (sym c.in-Some.ensures) c.in-Some-file.is
+    (size_of c.args.trees.now stores all c.in-Some.handle.tree within c.in-Some-file.file.0 c.size-size.result c.size-size.ensures)
+    (changes_of c.args.trees.now stores all c.in-Some.handle.tree within c.in-Some-file.file.0 c.changes-changes.result c.changes-changes.ensures))

@@ -1,44 +1,79 @@
-use Rattle.std.proofs.Common.{◌≡◌, Option, Some, List, refl, sym, subst, ap, ◌∙◌}
-use Rattle.std.specs.Prelude.{IsSome}
-use Rattle.apex_types.specs.declared.codes.Errno.TheVariants.{Enoent, Eisdir}
+use Rattle.std.proofs.Common.{◌≡◌, ◌<◌, Some, None, sym, subst, ap, ◌∙◌, false, length, arith}
 use Rattle.apex_types.specs.declared.fields.Spot.{Spot}
-use Rattle.apex_model.specs.Outcomes.{refusal}
-use Rattle.apex_model.specs.Trees.{Name, walk}
+use Rattle.apex_model.specs.Trees.{walk}
 use Rattle.file_tree.specs.Entries.{TreeValue, IsSpotAt}
-use Rattle.store_model.specs.Stores.{StoreValue}
-use Rattle.store_model.specs.Systems.{store_at, file_path}
-use Rattle.service_parts.proofs.Served.{served-as}
-use Rattle.file_services.proofs.RenamingLaws.{rename_step, rename-nothing, rename-directory, rename-obstacle}
+use Rattle.store_model.specs.Systems.{store_at}
+use Rattle.tree_store.specs.Stored.{names_of}
+use Rattle.service_parts.specs.Serving.{ReadsFailed}
+use Rattle.service_parts.proofs.Closing.{served_still}
+use Rattle.service_parts.proofs.Held.{all_outlined, at_value, stores_long, tree_of}
+use Rattle.service_parts.proofs.Served.{served-told}
+use Rattle.file_services.proofs.RenamingLaws.{rename_step, rename-nothing, rename-root, rename-directory, rename-obstacle}
 use Rattle.file_services.proofs.renaming.rename_spot.Goals as goal
 
-pub returns-in-Free-clause-served : goal.returns-in-Free-clause-served
-returns-in-Free-clause-served g c = λ from found.
-    let P : Spot → Type 0 = λ spot. IsSpotAt (store_at c.args.trees.now c.args.target.tree).tree from spot in
-    served-as (rename_step c.args.p.0 c.args.target.tree from c.args.target.path.names) c.args.trees.now c.args.handles.now c.args.trees.now c.args.handles.now (refusal Enoent)
-    c.args.trees.now c.args.handles.now c.refusal.result refl refl c.refusal.ensures
-    (rename-nothing c.args.trees.now c.args.handles.now c.args.p.0 c.args.target.tree from c.args.target.path.names c.requires.within c.in-Free.parent (subst P c.in-Free.is found))
+pub returns-in-Free : goal.returns-in-Free
+returns-in-Free g c =
+    let V = g.R.Rig.tells_view in
+    let K = g.R.Rig.keeps_cuts in
+    let o = g.R.Rig.state c.args.rig.now in
+    let trees = c.args.trees.now in
+    let handles = c.args.handles.now in
+    served_still V K o (g.met.R.Rig.sound c.args.rig.now) (rename_step c.args.p.0 c.args.target.tree c.args.from.now c.args.target.path.names) (ReadsFailed false o o) trees handles c.requires.serving handles c.refusal.result
+    (λ stores hold. let low = stores_long trees stores (all_outlined V o trees stores hold) in
+    let within : c.args.target.tree < length stores = omega (arith, low, c.requires.within) in
+    let found = (at_value trees stores (all_outlined V o trees stores hold) (λ (v : TreeValue). IsSpotAt v c.args.from.now c.args.spot) c.args.target.tree c.requires.within c.requires.found) in
+    let P : Spot → Type 0 = λ spot. IsSpotAt (store_at stores c.args.target.tree).tree c.args.from.now spot in
+    served-told c.refusal.ensures (rename-nothing stores handles c.args.p.0 c.args.target.tree c.args.from.now c.args.target.path.names within c.in-Free.parent (subst P c.in-Free.is found)))
 
-pub returns-in-Directory-clause-served : goal.returns-in-Directory-clause-served
-returns-in-Directory-clause-served g c = λ from found.
-    let P : Spot → Type 0 = λ spot. IsSpotAt (store_at c.args.trees.now c.args.target.tree).tree from spot in
-    served-as (rename_step c.args.p.0 c.args.target.tree from c.args.target.path.names) c.args.trees.now c.args.handles.now c.args.trees.now c.args.handles.now (refusal Eisdir)
-    c.args.trees.now c.args.handles.now c.refusal-in-Directory.result refl refl c.refusal-in-Directory.ensures
-    (rename-directory c.args.trees.now c.args.handles.now c.args.p.0 c.args.target.tree from c.args.target.path.names c.requires.within
-    c.in-Directory.parent c.in-Directory.node c.in-Directory.name (subst P c.in-Directory.is found))
+pub returns-in-Root : goal.returns-in-Root
+returns-in-Root g c =
+    let V = g.R.Rig.tells_view in
+    let K = g.R.Rig.keeps_cuts in
+    let o = g.R.Rig.state c.args.rig.now in
+    let trees = c.args.trees.now in
+    let handles = c.args.handles.now in
+    served_still V K o (g.met.R.Rig.sound c.args.rig.now) (rename_step c.args.p.0 c.args.target.tree c.args.from.now c.args.target.path.names) (ReadsFailed false o o) trees handles c.requires.serving handles c.refusal-in-Root.result
+    (λ stores hold. let low = stores_long trees stores (all_outlined V o trees stores hold) in
+    let within : c.args.target.tree < length stores = omega (arith, low, c.requires.within) in
+    let found = (at_value trees stores (all_outlined V o trees stores hold) (λ (v : TreeValue). IsSpotAt v c.args.from.now c.args.spot) c.args.target.tree c.requires.within c.requires.found) in
+    let P : Spot → Type 0 = λ spot. IsSpotAt (store_at stores c.args.target.tree).tree c.args.from.now spot in
+    served-told c.refusal-in-Root.ensures (rename-root stores handles c.args.p.0 c.args.target.tree c.args.from.now c.args.target.path.names within (subst P c.in-Root.is found)))
 
-pub rename_to-requires-clause-in_use : goal.rename_to-requires-clause-in_use
-rename_to-requires-clause-in_use g c =
-    let P : Spot → Type 0 = λ spot. IsSpotAt (store_at c.args.trees.now c.args.target.tree).tree c.requires.found.0 spot in
-    let Q : Option (List Name) → Type 0 = λ o. IsSome o in
-    subst Q (sym (subst P c.in-File.is c.requires.found.1).2) refl
+pub returns-in-Directory : goal.returns-in-Directory
+returns-in-Directory g c =
+    let V = g.R.Rig.tells_view in
+    let K = g.R.Rig.keeps_cuts in
+    let o = g.R.Rig.state c.args.rig.now in
+    let trees = c.args.trees.now in
+    let handles = c.args.handles.now in
+    served_still V K o (g.met.R.Rig.sound c.args.rig.now) (rename_step c.args.p.0 c.args.target.tree c.args.from.now c.args.target.path.names) (ReadsFailed false o o) trees handles c.requires.serving handles c.refusal-in-Directory.result
+    (λ stores hold. let low = stores_long trees stores (all_outlined V o trees stores hold) in
+    let within : c.args.target.tree < length stores = omega (arith, low, c.requires.within) in
+    let found = (at_value trees stores (all_outlined V o trees stores hold) (λ (v : TreeValue). IsSpotAt v c.args.from.now c.args.spot) c.args.target.tree c.requires.within c.requires.found) in
+    let P : Spot → Type 0 = λ spot. IsSpotAt (store_at stores c.args.target.tree).tree c.args.from.now spot in
+    served-told c.refusal-in-Directory.ensures (rename-directory stores handles c.args.p.0 c.args.target.tree c.args.from.now c.args.target.path.names within c.in-Directory.parent c.in-Directory.node c.in-Directory.name (subst P c.in-Directory.is found)))
 
-pub returns-in-Err-clause-served : goal.returns-in-Err-clause-served
-returns-in-Err-clause-served g c = λ from found.
-    let P : Spot → Type 0 = λ spot. IsSpotAt (store_at c.args.trees.now c.args.target.tree).tree from spot in
-    let at : file_path c.args.trees.now c.args.target.tree c.in-File.node ≡ Some from = (subst P c.in-File.is found).2 in
-    let tree : c.tree.result.now ≡ (store_at c.args.trees.now c.args.target.tree).tree = c.tree.ensures ∙ ap (λ (v : StoreValue). v.tree) c.get.ensures in
-    let way : walk (store_at c.args.trees.now c.args.target.tree).tree.nodes c.args.target.path.names ≡ Some c.in-Err.errno
-    = ap (λ (v : TreeValue). walk v.nodes c.args.target.path.names) (sym tree) ∙ c.in-Err.ensures.obstacle in
-    served-as (rename_step c.args.p.0 c.args.target.tree from c.args.target.path.names) c.args.trees.now c.args.handles.now c.args.trees.now c.args.handles.now (refusal c.in-Err.errno)
-    c.args.trees.now c.args.handles.now c.refusal-in-Err.result refl refl c.refusal-in-Err.ensures
-    (rename-obstacle c.args.trees.now c.args.handles.now c.args.p.0 c.args.target.tree from c.args.target.path.names c.requires.within c.in-File.node at c.in-Err.errno way)
+pub rename_to-requires-clause-way : goal.rename_to-requires-clause-way
+rename_to-requires-clause-way g c = λ store at. subst (λ (v : TreeValue). walk v.nodes c.args.target.path.names ≡ None) (c.tree.ensures store at) c.in-Ok.ensures.obstacle
+
+pub rename_to-requires-clause-reached : goal.rename_to-requires-clause-reached
+rename_to-requires-clause-reached g c = λ store at. subst (λ (v : TreeValue). IsSpotAt v c.args.target.path.names c.in-Ok.spot) (c.tree.ensures store at) c.in-Ok.ensures.spot
+
+pub rename_to-requires-clause-found : goal.rename_to-requires-clause-found
+rename_to-requires-clause-found g c = λ store at. (subst (λ (spot : Spot). IsSpotAt (names_of store) c.args.from.now spot) c.in-File.is (c.requires.found store at)).2
+
+pub returns-in-Err : goal.returns-in-Err
+returns-in-Err g c =
+    let V = g.R.Rig.tells_view in
+    let K = g.R.Rig.keeps_cuts in
+    let o = g.R.Rig.state c.args.rig.now in
+    let trees = c.args.trees.now in
+    let handles = c.args.handles.now in
+    served_still V K o (g.met.R.Rig.sound c.args.rig.now) (rename_step c.args.p.0 c.args.target.tree c.args.from.now c.args.target.path.names) (ReadsFailed false o o) trees handles c.requires.serving handles c.refusal-in-Err.result
+    (λ stores hold. let low = stores_long trees stores (all_outlined V o trees stores hold) in
+    let within : c.args.target.tree < length stores = omega (arith, low, c.requires.within) in
+    let found = (at_value trees stores (all_outlined V o trees stores hold) (λ (v : TreeValue). IsSpotAt v c.args.from.now c.args.spot) c.args.target.tree c.requires.within c.requires.found) in
+    let P : Spot → Type 0 = λ spot. IsSpotAt (store_at stores c.args.target.tree).tree c.args.from.now spot in
+    let way : walk (store_at stores c.args.target.tree).tree.nodes c.args.target.path.names ≡ Some c.in-Err.errno
+    = ap (λ (v : TreeValue). walk v.nodes c.args.target.path.names) (sym (tree_of trees stores (all_outlined V o trees stores hold) c.args.target.tree c.requires.within c.tree.result.now c.tree.ensures)) ∙ c.in-Err.ensures.obstacle in
+    served-told c.refusal-in-Err.ensures (rename-obstacle stores handles c.args.p.0 c.args.target.tree c.args.from.now c.args.target.path.names within c.in-File.node (subst P c.in-File.is found).2 c.in-Err.errno way))

@@ -312,3 +312,63 @@ returns-clause-moved g c logbooks tells stand =
     let three = g.R.Rig.state c.open_gates.new.rig in
     let view3 = c.open_gates.ensures.view tells in
     all_moved_in books two.view three.view logbooks view3.long stand2 written (c.in_ok-open_gates.ensures.opened tells) (in_regions NextGate next_inside books size laid two.view three.view view3)
+
+pub returns-in_err-close_gates-clause-shown : goal.returns-in_err-close_gates-clause-shown
+returns-in_err-close_gates-clause-shown g c logbooks tells stand =
+    let books = c.args.books.now in
+    let size = (g.R.Rig.state c.args.rig.now).size in
+    let laid = c.requires.laid_out in
+    let o = g.R.Rig.state c.args.rig.now in
+    let one = g.R.Rig.state c.close_gates.new.rig in
+    let view1 = c.close_gates.ensures.view tells in
+    closing_all books o.view one.view logbooks view1.long stand (in_regions (OpenGate o.view) (open_inside o.view) books size laid o.view one.view view1)
+
+pub returns-in_err-write_bodies-clause-shown : goal.returns-in_err-write_bodies-clause-shown
+returns-in_err-write_bodies-clause-shown g c logbooks tells stand =
+    let books = c.args.books.now in
+    let size = (g.R.Rig.state c.args.rig.now).size in
+    let laid = c.requires.laid_out in
+    let o = g.R.Rig.state c.args.rig.now in
+    let one = g.R.Rig.state c.close_gates.new.rig in
+    let view1 = c.close_gates.ensures.view tells in
+    let stand1 = closing_stand books o.view one.view logbooks view1.long stand (in_regions (OpenGate o.view) (open_inside o.view) books size laid o.view one.view view1) in
+    let shut = c.in_ok-close_gates.ensures.closed tells in
+    let two = g.R.Rig.state c.write_bodies.new.rig in
+    let view2 = c.write_bodies.ensures.view tells in
+    writing_all books one.view two.view logbooks view2.long stand1 shut (in_regions NextBody body_inside books size laid one.view two.view view2)
+
+pub returns-in_err-open_gates-clause-shown : goal.returns-in_err-open_gates-clause-shown
+returns-in_err-open_gates-clause-shown g c logbooks tells stand =
+    let books = c.args.books.now in
+    let size = (g.R.Rig.state c.args.rig.now).size in
+    let laid = c.requires.laid_out in
+    let o = g.R.Rig.state c.args.rig.now in
+    let one = g.R.Rig.state c.close_gates.new.rig in
+    let view1 = c.close_gates.ensures.view tells in
+    let stand1 = closing_stand books o.view one.view logbooks view1.long stand (in_regions (OpenGate o.view) (open_inside o.view) books size laid o.view one.view view1) in
+    let shut = c.in_ok-close_gates.ensures.closed tells in
+    let two = g.R.Rig.state c.write_bodies.new.rig in
+    let view2 = c.write_bodies.ensures.view tells in
+    let stand2 = writing_stand books one.view two.view logbooks view2.long stand1 shut (in_regions NextBody body_inside books size laid one.view two.view view2) in
+    let written = c.in_ok-write_bodies.ensures.written tells in
+    let three = g.R.Rig.state c.open_gates.new.rig in
+    let view3 = c.open_gates.ensures.view tells in
+    opening_all books two.view three.view logbooks view3.long stand2 written (in_regions NextGate next_inside books size laid two.view three.view view3)
+
+pub returns-clause-shown : goal.returns-clause-shown
+returns-clause-shown g c logbooks tells stand =
+    let books = c.args.books.now in
+    let size = (g.R.Rig.state c.args.rig.now).size in
+    let laid = c.requires.laid_out in
+    let o = g.R.Rig.state c.args.rig.now in
+    let one = g.R.Rig.state c.close_gates.new.rig in
+    let view1 = c.close_gates.ensures.view tells in
+    let stand1 = closing_stand books o.view one.view logbooks view1.long stand (in_regions (OpenGate o.view) (open_inside o.view) books size laid o.view one.view view1) in
+    let shut = c.in_ok-close_gates.ensures.closed tells in
+    let two = g.R.Rig.state c.write_bodies.new.rig in
+    let view2 = c.write_bodies.ensures.view tells in
+    let stand2 = writing_stand books one.view two.view logbooks view2.long stand1 shut (in_regions NextBody body_inside books size laid one.view two.view view2) in
+    let written = c.in_ok-write_bodies.ensures.written tells in
+    let three = g.R.Rig.state c.open_gates.new.rig in
+    let view3 = c.open_gates.ensures.view tells in
+    opening_all books two.view three.view logbooks view3.long stand2 written (in_regions NextGate next_inside books size laid two.view three.view view3)

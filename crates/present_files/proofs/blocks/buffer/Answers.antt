@@ -1,7 +1,7 @@
 use Rattle.std.proofs.Common.{◌≡◌, ◌≤◌, ℕ, subst, arith}
 use Rattle.std.proofs.lemmas.Result.{on_err_weaker, on_ok_weaker}
 use Rattle.apex_model.specs.Image.{data_block}
-use Rattle.tree_changes.specs.InStep.{data_at}
+use Rattle.tree_region.specs.InStep.{data_at}
 use Rattle.present_files.specs.Nodes.{held_or}
 use Rattle.present_files.specs.Present.{number_in}
 use Rattle.present_files.proofs.Rooms.{block-same, numbered, present-held}

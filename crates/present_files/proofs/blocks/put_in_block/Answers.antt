@@ -1,7 +1,7 @@
 use Rattle.std.proofs.Common.{◌<◌, arith}
 use Rattle.apex_model.specs.Files.{blocks_of}
 use Rattle.apex_model.specs.Image.{data_block}
-use Rattle.tree_changes.specs.InStep.{data_at}
+use Rattle.tree_region.specs.InStep.{data_at}
 use Rattle.present_files.specs.Present.{number_in, row_length, size_in}
 use Rattle.present_files.proofs.Rooms.{present-held, room-other, room-put}
 use Rattle.present_files.proofs.blocks.put_in_block.Goals as goal

@@ -3,7 +3,7 @@ use Rattle.std.proofs.lemmas.List.{take_all}
 use Rattle.apex_model.specs.Image.{data_block}
 use Rattle.apex_model.specs.Layout.{tree_blocks}
 use Rattle.block_pool.specs.Buffers.{Buffers, node_of}
-use Rattle.tree_changes.specs.InStep.{data_at}
+use Rattle.tree_region.specs.InStep.{data_at}
 use Rattle.present_files.specs.Nodes.{AllStay, bytes_of}
 use Rattle.present_files.proofs.DataBlocks.{block-long}
 use Rattle.present_files.proofs.HeldBlocks.{given-back, others-all, taken-bytes, taken-free, taken-node, taken-others}

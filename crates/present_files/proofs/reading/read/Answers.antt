@@ -1,7 +1,7 @@
 use Rattle.std.proofs.Common.{◌≡◌, ℕ, ◌-◌, ◌++◌, min, List, length, take, drop, ap, ◌∙◌, arith}
 use Rattle.std.proofs.lemmas.List.{length-take}
 use Rattle.rig_core.specs.Bytes.{part}
-use Rattle.tree_changes.specs.InStep.{data_at}
+use Rattle.tree_region.specs.InStep.{data_at}
 use Rattle.present_files.specs.Present.{room_bytes, size_in}
 use Rattle.present_files.proofs.Contents.{content-read}
 use Rattle.present_files.proofs.Sizes.{size-read}

@@ -3,7 +3,7 @@ use Rattle.std.proofs.lemmas.List.{length-drop, length-take}
 use Rattle.apex_model.specs.Layout.{tree_blocks}
 use Rattle.rig_core.specs.Bytes.{part}
 use Rattle.rig_core.proofs.Put.{byte-part, length-part}
-use Rattle.tree_changes.specs.InStep.{data_at}
+use Rattle.tree_region.specs.InStep.{data_at}
 use Rattle.present_files.specs.Present.{present_block, room_bytes, row_length}
 use Rattle.present_files.proofs.Contents.{piece-read, put-mid-long}
 use Rattle.present_files.proofs.ReadRuns.{reads_then}

@@ -1,7 +1,7 @@
 use Rattle.std.proofs.Common.{◌≡◌, ℕ, ◌+◌, ◌*◌, ◌<◌, length}
 use Rattle.rig_core.specs.Bytes.{byte}
 use Rattle.rig_core.specs.Outside.{OnlyReads}
-use Rattle.tree_changes.specs.InStep.{data_at}
+use Rattle.tree_region.specs.InStep.{data_at}
 use Rattle.present_files.specs.Present.{room_bytes}
 use Rattle.present_files.proofs.reading.read_blocks.Given as goal
 

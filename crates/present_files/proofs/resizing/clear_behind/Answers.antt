@@ -2,7 +2,7 @@ use Rattle.std.proofs.Common.{◌≡◌, ℕ, ◌+◌, ◌-◌, ◌*◌, ◌/◌
 use Rattle.apex_model.specs.Files.{blocks_of}
 use Rattle.apex_model.specs.Layout.{tree_blocks}
 use Rattle.rig_core.specs.Bytes.{put}
-use Rattle.tree_changes.specs.InStep.{data_at}
+use Rattle.tree_region.specs.InStep.{data_at}
 use Rattle.present_files.specs.Kept.{KeepsContents}
 use Rattle.present_files.specs.Present.{room_bytes, size_in}
 use Rattle.present_files.proofs.Contents.{put-zeros}

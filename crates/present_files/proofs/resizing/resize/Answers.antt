@@ -1,7 +1,7 @@
 use Rattle.std.proofs.Common.{◌≡◌, ◌+◌, ◌-◌, ◌*◌, ◌<◌, ◌≤◌, length, take, ◌∙◌, arith}
 use Rattle.apex_model.specs.Files.{blocks_of}
 use Rattle.apex_model.specs.Layout.{tree_blocks}
-use Rattle.tree_changes.specs.InStep.{data_at}
+use Rattle.tree_region.specs.InStep.{data_at}
 use Rattle.present_files.specs.Present.{room_bytes, room_in, row_length, size_in}
 use Rattle.present_files.proofs.Contents.{content-cut, content-filled}
 use Rattle.present_files.proofs.GivenUp.{room-beside, room-front, zeros-past}

@@ -1,6 +1,6 @@
 use Rattle.std.proofs.Common.{◌≡◌, ◌+◌, length, replicate, ap, ◌∙◌, rules, arith}
 use Rattle.rig_core.specs.Bytes.{part}
-use Rattle.tree_changes.specs.InStep.{block_place}
+use Rattle.tree_region.specs.InStep.{block_place}
 use Rattle.present_files.proofs.DataBlocks.{block-part, zero-part}
 use Rattle.present_files.proofs.stored.read_stored.Goals as goal
 

@@ -1,6 +1,6 @@
 use Rattle.std.proofs.Common.{◌∙◌, ◌≡◌, ◌≤◌, ℕ, List, subst, arith}
 use Rattle.apex_types.specs.declared.numbers.FileNode.{FileNode}
-use Rattle.tree_changes.specs.InStep.{data_at}
+use Rattle.tree_region.specs.InStep.{data_at}
 use Rattle.block_pool.specs.Buffers.{node_of}
 use Rattle.present_files.specs.Present.{present_block}
 use Rattle.present_files.proofs.HeldBlocks.{held-next, held-node}

@@ -1,6 +1,6 @@
 use Rattle.std.proofs.Common.{◌≡◌, ◌+◌, ◌-◌, ◌≤◌}
 use Rattle.rig_core.specs.Outside.{OnlyReads}
-use Rattle.tree_changes.specs.InStep.{data_at}
+use Rattle.tree_region.specs.InStep.{data_at}
 use Rattle.present_files.specs.Kept.{KeepsContents}
 use Rattle.present_files.specs.Nodes.{AreHeld}
 use Rattle.present_files.specs.Present.{buffer_count, IsPresent, free_buffers}

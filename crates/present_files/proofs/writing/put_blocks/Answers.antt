@@ -4,7 +4,7 @@ use Rattle.std.proofs.lemmas.List.{take_all}
 use Rattle.block_pool.specs.declared.buffers.Block.{Block}
 use Rattle.block_pool.specs.Buffers.{holds_block}
 use Rattle.rig_core.specs.Bytes.{put}
-use Rattle.tree_changes.specs.InStep.{data_at}
+use Rattle.tree_region.specs.InStep.{data_at}
 use Rattle.present_files.specs.Present.{room_bytes, row_length}
 use Rattle.present_files.proofs.Contents.{piece-put}
 use Rattle.present_files.proofs.Rooms.{room-long}

@@ -2,7 +2,7 @@ use Rattle.std.proofs.Common.{◌≡◌, ◌≢◌, ◌+◌, ◌-◌, ◌*◌, �
 use Rattle.apex_types.specs.declared.numbers.FileNode.{FileNode}
 use Rattle.apex_model.specs.Layout.{tree_blocks}
 use Rattle.rig_core.specs.Bytes.{put}
-use Rattle.tree_changes.specs.InStep.{data_at}
+use Rattle.tree_region.specs.InStep.{data_at}
 use Rattle.present_files.specs.Present.{buffer_count, IsPresent, room_bytes}
 use Rattle.present_files.proofs.writing.put_blocks.Given as goal
 

@@ -4,7 +4,7 @@ use Rattle.std.proofs.lemmas.Bool.{cases_lt}
 use Rattle.apex_model.specs.Layout.{tree_blocks}
 use Rattle.block_pool.specs.Buffers.{Buffers, node_of}
 use Rattle.rig_core.specs.Bytes.{put}
-use Rattle.tree_changes.specs.InStep.{data_at}
+use Rattle.tree_region.specs.InStep.{data_at}
 use Rattle.present_files.specs.Present.{room_bytes, room_in, row_length, size_in}
 use Rattle.present_files.proofs.Contents.{content-written}
 use Rattle.present_files.proofs.Rooms.{room-long}

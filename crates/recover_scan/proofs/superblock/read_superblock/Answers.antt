@@ -4,6 +4,9 @@ use Rattle.apex_model.specs.Layout.{layout_blocks}
 use Rattle.rig_core.specs.Bytes.{part}
 use Rattle.recover_scan.specs.Mount.{IsImageOf}
 use Rattle.recover_scan.proofs.Differences.{compared, state-small, state-closed, state-other, state-regions}
+use Rattle.recover_scan.specs.declared.errors.MountError.{MountError}
+use Rattle.recover_scan.specs.declared.errors.MountError.TheVariants.{TooSmall}
+use Rattle.recover_scan.proofs.Small.{closed_is_other, table_is_other, device_is_other, memory_is_other, fault_is_other}
 use Rattle.recover_scan.proofs.superblock.read_superblock.Goals as goal
 
 pub returns-then-size-wanted-clause-refused : goal.returns-then-size-wanted-clause-refused
@@ -55,3 +58,15 @@ returns-clause-good g c = λ shown.
 
 pub returns-clause-regions : goal.returns-clause-regions
 returns-clause-regions g c = λ shown. let image = returns-clause-good g c shown in state-regions _ _ image.room image.formatted image.same
+
+pub returns-then-size-wanted-clause-wanted : goal.returns-then-size-wanted-clause-wanted
+returns-then-size-wanted-clause-wanted g c wanted is =
+    let count : c.from-wanted.result ≡ layout_blocks c.args.table.now = search rules in
+    let same : 512 * c.from-wanted.result ≡ wanted = cc in
+    (omega (arith, c.size.ensures, c.if-size-wanted.true, same), omega (arith, same, count))
+
+pub returns-in-Ok-false-clause-wanted : goal.returns-in-Ok-false-clause-wanted
+returns-in-Ok-false-clause-wanted g c = closed_is_other c.args.table.now (g.R.Rig.state c.args.rig.now).size
+
+pub returns-in-Ok-Some-clause-wanted : goal.returns-in-Ok-Some-clause-wanted
+returns-in-Ok-Some-clause-wanted g c = table_is_other c.args.table.now (g.R.Rig.state c.args.rig.now).size c.in-Ok-Some.place

@@ -7,7 +7,7 @@ use Rattle.apex_model.specs.Logbooks.{Logbook, cleared, empty_book}
 use Rattle.logbook_store.specs.Books.{Stands}
 use Rattle.logbook_store.specs.Logs.{site_of, sites_of, StandFor}
 use Rattle.logbook_store.specs.declared.book.Book.{Book}
-use Rattle.logbook_store.proofs.Beside.{site_at, leaves_one, others_same, stands_same, stand_set}
+use Rattle.logbook_store.proofs.Beside.{site_at, one_changes, leaves_one, others_same, stands_same, stand_set}
 use Rattle.logbook_store.proofs.Zips.{zip_at, sites_set, same_site, on_ok}
 use Rattle.logbook_store.proofs.logs.Logs.clear.Goals as goal
 
@@ -119,3 +119,22 @@ returns-clause-cleared g c logbooks tells stand =
     (others_same g.R.Rig.tells_view g.R.Rig.keeps_cuts c.args.self.now logbooks k book new o e (g.met.R.Rig.sound c.args.rig.now) tells here c.requires.laid_out c.requires.settled stand book.start 2048 e.view o.view (omega arith) (omega arith) same j (site_of other) differ (site_at c.args.self.now j other found)) was)
     c.clear.new.self now)
     (c.clear.ensures.cleared (slice_index_or logbooks k empty_book) tells stands)
+
+pub returns-clause-shown : goal.returns-clause-shown
+returns-clause-shown g c logbooks tells stand =
+    let books = c.self.inside.books.items in
+    let k = c.args.logbook in
+    let is : books ≡ c.args.self.now = c.self.view_is in
+    let book = c.index_mut.result.now in
+    let there : slice_get books k ≡ Some book = slice_get_read books (length books) k book refl (omega (arith, c.requires.logbook, ap length is)) c.index_mut.ensures.value in
+    let here : slice_get c.args.self.now k ≡ Some book = ap (λ (bs : List Book). slice_get bs k) (sym is) ∙ there in
+    let P : List ℕ → Book → Logbook → Type 0 = λ v a b. Stands a v b in
+    let o = g.R.Rig.state c.args.rig.now in
+    let e = g.R.Rig.state c.clear.new.rig in
+    let new = cleared (slice_index_or logbooks k empty_book) in
+    let stands = zip_at (P o.view) c.args.self.now logbooks k book empty_book stand here in
+    let same : SameElsewhere book.start 2048 o.view e.view = c.clear.ensures.outside_view tells in
+    one_changes g.R.Rig.tells_view g.R.Rig.keeps_cuts c.args.self.now logbooks k book new o e (g.met.R.Rig.sound c.args.rig.now) tells here c.requires.laid_out c.requires.settled stand
+    e.view same.long
+    (others_same g.R.Rig.tells_view g.R.Rig.keeps_cuts c.args.self.now logbooks k book new o e (g.met.R.Rig.sound c.args.rig.now) tells here c.requires.laid_out c.requires.settled stand book.start 2048 e.view o.view (omega arith) (omega arith) same)
+    (c.clear.ensures.shown (slice_index_or logbooks k empty_book) tells stands)

@@ -1,7 +1,8 @@
-use Rattle.std.proofs.Common.{◌≡◌, ◌≤◌, List, drop, length, sym, ◌∙◌, ap, subst}
+use Rattle.std.proofs.Common.{◌≡◌, inl, ◌≤◌, List, drop, length, sym, ◌∙◌, ap, subst}
 use Rattle.std.specs.Prelude.{nat_lt}
 use Rattle.std.specs.List.{AllZip}
-use Rattle.logbook_store.specs.Logs.{sites_of, StandFor}
+use Rattle.logbook_store.specs.Logs.{sites_of, AreBeforeOrAfter, StandFor}
+use Rattle.logbook_store.proofs.Beside.{stored_each}
 use Rattle.logbook_store.specs.Moves.{AreMovedIn, HasMoved, LeavesBut, NextPlace, OfOne, SameBut, moved_all, moving_count}
 use Rattle.logbook_store.specs.declared.book.Book.{Book}
 use Rattle.logbook_store.proofs.Joined.{all_back, none_by_test, all_stand, but_elsewhere, count_none, leaves_but_elsewhere, none_leaves, none_move}
@@ -69,3 +70,25 @@ returns-clause-moved g c logbooks tells stand =
     subst (λ (bs : List Book). StandFor bs e.view (moved_all (sites_of books) logbooks))
     (all_back c.self.inside.books.len c.deref_mut.result.now new (drop (length new) c.self.inside.books.items) c.take_all_moved.ensures.sites c.deref_mut.ensures.len)
     (all_stand books new o.view e.view logbooks sites has stand are)
+
+pub returns-then-not-is_any_moving-clause-shown : goal.returns-then-not-is_any_moving-clause-shown
+returns-then-not-is_any_moving-clause-shown g c logbooks tells stand =
+    λ j site b d is was behind. inl (stored_each c.args.self.now (g.R.Rig.state c.args.rig.now).view logbooks stand j site b is was)
+
+pub returns-in_err-move_on_device-clause-shown : goal.returns-in_err-move_on_device-clause-shown
+returns-in_err-move_on_device-clause-shown g c logbooks tells stand =
+    let o = g.R.Rig.state c.args.rig.now in
+    let e = g.R.Rig.state c.move_on_device.new.rig in
+    let books = c.args.self.now in
+    let is : c.deref-2.result.now ≡ books = c.deref-2.ensures.value ∙ c.self.view_is in
+    subst (λ (bs : List Book). AreBeforeOrAfter (sites_of bs) logbooks (moved_all (sites_of bs) logbooks) e.view) is
+    (c.move_on_device.ensures.shown logbooks tells (subst (λ (bs : List Book). StandFor bs o.view logbooks) (sym is) stand))
+
+pub returns-clause-shown : goal.returns-clause-shown
+returns-clause-shown g c logbooks tells stand =
+    let o = g.R.Rig.state c.args.rig.now in
+    let e = g.R.Rig.state c.move_on_device.new.rig in
+    let books = c.args.self.now in
+    let is : c.deref-2.result.now ≡ books = c.deref-2.ensures.value ∙ c.self.view_is in
+    subst (λ (bs : List Book). AreBeforeOrAfter (sites_of bs) logbooks (moved_all (sites_of bs) logbooks) e.view) is
+    (c.move_on_device.ensures.shown logbooks tells (subst (λ (bs : List Book). StandFor bs o.view logbooks) (sym is) stand))

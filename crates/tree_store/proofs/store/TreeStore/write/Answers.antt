@@ -7,7 +7,7 @@ use Rattle.file_tree.specs.Entries.{slot}
 use Rattle.store_model.specs.Stores.{kept_at}
 use Rattle.tree_store.specs.Stored.{names_of, size_at}
 use Rattle.present_files.specs.Present.{changes_of}
-use Rattle.state_contents.specs.Refusals.{content_refusal}
+use Rattle.tree_state.specs.ContentRefusals.{content_refusal}
 use Rattle.tree_state.specs.declared.state.TreeState.{TreeState}
 use Rattle.tree_store.proofs.Changed.{stored-after, acts-after, passes-after, holds-same, holds-changed, refusal-same, some_of}
 use Rattle.tree_store.proofs.store.TreeStore.write.Goals as goal

@@ -1,5 +1,5 @@
 use Rattle.std.proofs.Common.{refl, ◌≡◌}
-use Rattle.state_contents.specs.Changes.{StaysDurable, IsUnchanged}
+use Rattle.tree_state.specs.Changes.{StaysDurable, IsUnchanged}
 use Rattle.tree_store.proofs.Changed.{stored-after, acts-after, passes-after, holds-same}
 use Rattle.tree_store.proofs.store.TreeStore.write_back.Goals as goal
 

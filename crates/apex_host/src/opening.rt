@@ -1,0 +1,38 @@
+//! A device's image, opened for a table.
+ghost use Rattle.std.specs.Prelude.{◌≡◌, IfOk, IfErr};
+ghost use Rattle.apex_model.specs.Accepted.{IsAccepted};
+ghost use Rattle.rig_core.specs.Leaves.{IsAllSettled};
+ghost use Rattle.rig_core.specs.Outside.{OnlyReads};
+ghost use Rattle.module_session.specs.Sessions.{table_of_session, IsReady};
+ghost use Rattle.apex_host.specs.Opening.{StartsFrom};
+ghost use Rattle.apex_host.specs.Stops.{StopsMount};
+
+use crate::stops::Stop;
+use apex_types::Table;
+use image_mount::mount;
+use module_session::Session;
+use rig_core::Rig;
+use std::alloc::Global;
+
+/// A session of a module of this table, from the state that the device's image stands for. Only
+/// reads are made. It takes all memory that the session needs.
+pub fn opened_session<R: Rig>(alloc: Global, table: Table, rig: &mut R) -> Result<Session, Stop>
+    requires accepted { IsAccepted table }
+    requires settled { IsAllSettled (R.state rig.old) }
+    ensures table { IfOk result (λ session. table_of_session session ≡ table) }
+    ensures ready { IfOk result (IsReady R.tells_view (R.state rig.new)) }
+    ensures starts { R.tells_view
+        → IfOk result (StartsFrom R.tells_view table (R.state rig.old) (R.state rig.new)) }
+    ensures stopped { IfErr result
+        (StopsMount R.tells_view table (R.state rig.old) (R.state rig.new)) }
+    ensures reads { OnlyReads R.tells_view (R.state rig.old) (R.state rig.new) }
+{
+    let store = match mount(alloc, &table, rig) {
+        Ok(store) => store,
+        Err(error) => return Err(Stop::image(error)),
+    };
+    match Session::start(alloc, table, store, rig) {
+        Ok(session) => Ok(session),
+        Err(_) => Err(Stop::memory()),
+    }
+}

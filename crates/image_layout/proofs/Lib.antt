@@ -1,0 +1,9 @@
+pub mod After
+pub mod Between
+pub mod Following
+pub mod Frames
+pub mod InStep
+pub mod Moments
+pub mod Parts
+pub mod Spoken
+pub mod Valid

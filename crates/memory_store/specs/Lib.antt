@@ -1,4 +1,0 @@
-pub mod Changes
-pub mod Invariant
-pub mod Lending
-pub mod Refusals

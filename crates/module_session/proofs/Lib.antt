@@ -1,0 +1,7 @@
+mod Called
+mod Counts
+pub mod Offers
+pub mod Ready
+mod Starting
+mod Ticked
+mod Worlds

@@ -1,0 +1,7 @@
+mod Moments
+pub mod OneLine
+pub mod Parts
+mod Rising
+mod Texts
+mod Turns
+mod Worlds

@@ -1,3 +1,0 @@
-pub mod Charged
-pub mod Copied
-pub mod Mounted

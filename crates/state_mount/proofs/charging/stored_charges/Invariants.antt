@@ -1,5 +1,0 @@
-use Rattle.state_mount.specs.Mounted.{AreStoredCharges}
-use Rattle.state_mount.proofs.charging.stored_charges.Given as goal
-
-abbrev pub invariant-loop-place : goal.invariant-loop-place
-invariant-loop-place l = AreStoredCharges l.row l.kept.tree l.place l.charges

@@ -1,5 +1,0 @@
-use Rattle.state_mount.specs.Mounted.{AreStoredSizes}
-use Rattle.state_mount.proofs.copying.stored_sizes.Given as goal
-
-abbrev pub invariant-loop-place : goal.invariant-loop-place
-invariant-loop-place l = AreStoredSizes l.tree l.place l.sizes.items

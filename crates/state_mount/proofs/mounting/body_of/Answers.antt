@@ -1,4 +1,0 @@
-use Rattle.state_mount.proofs.mounting.body_of.Goals as goal
-
-pub returns-clause-stored : goal.returns-clause-stored
-returns-clause-stored c = c.stand.ensures.stored

@@ -1,7 +1,0 @@
-pub mod Applies
-pub mod Mapped
-pub mod Released
-pub mod Removed
-pub mod States
-pub mod Steps
-pub mod Trees

@@ -1,4 +1,0 @@
-pub mod NewState
-pub mod Stored
-pub mod StoredTree
-pub mod Synchronised

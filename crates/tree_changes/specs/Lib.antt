@@ -1,4 +1,0 @@
-pub mod Contents
-pub mod InStep
-pub mod Ready
-pub mod Rows

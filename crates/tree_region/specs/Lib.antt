@@ -1,0 +1,14 @@
+pub mod Bodies
+pub mod Contents
+pub mod GoodNumbers
+pub mod InStep
+pub mod Laws
+pub mod Marking
+pub mod Marks
+pub mod Numbers
+pub mod OwnedRows
+pub mod Ready
+pub mod Region
+pub mod Replay
+pub mod Rows
+pub mod Words
