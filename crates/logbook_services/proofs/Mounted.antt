@@ -1,12 +1,12 @@
 -- Logbooks that were mounted, and those that moved a message.
-use Rattle.std.proofs.Common.{◌≡◌, ℕ, zero, suc, ◌+◌, ◌≤◌, Bool, false, List, [], ◌∷◌, Option, Some, length, map, refl, sym, ◌∙◌, ap, subst, arith}
+use Rattle.std.proofs.Common.{◌≡◌, ℕ, suc, ◌+◌, Bool, false, List, [], ◌∷◌, Some, length, map, refl, sym, ◌∙◌, ap, subst, arith}
 use Rattle.std.specs.Prelude.{slice_get, zip}
 use Rattle.std.specs.List.{AllZip, AllByRecursion}
 use Rattle.apex_types.specs.Rows.{Rows}
 use Rattle.apex_types.specs.declared.rows.LogbookRow.{LogbookRow}
 use Rattle.apex_model.specs.Accepted.{IsAccepted}
 use Rattle.apex_model.specs.Durable.{StoredLogbook, loaded_book}
-use Rattle.apex_model.specs.Logbooks.{Logbook, Message, LogbookSystem, moved, moved_by, all_moved}
+use Rattle.apex_model.specs.Logbooks.{Logbook, LogbookSystem, moved, moved_by, all_moved}
 use Rattle.apex_model.specs.Validity.{IsMessage, IsValidLogbook, IsValidLogbooks}
 use Rattle.apex_model.proofs.AcceptedTables.{all_logged, logbook_limits}
 use Rattle.apex_model.proofs.Cuts.{length-map}
@@ -15,7 +15,7 @@ use Rattle.logbook_store.specs.Books.{logged_of, Stands as BookStands}
 use Rattle.logbook_store.specs.Logs.{Site, StandFor, sites_of, sites_from}
 use Rattle.logbook_store.specs.Moves.{moved_all}
 use Rattle.logbook_store.specs.declared.book.Book.{Book}
-use Rattle.logbook_services.specs.Standing.{Stands, IsOfTable, IsServing, none_made}
+use Rattle.logbook_services.specs.Standing.{IsOfTable, IsServing, none_made}
 
 none-all : {A : Type 0} (P : A → Type 0) (xs : List A) → length xs ≡ 0 → AllByRecursion P xs
 none-all P [] e = tt
