@@ -74,7 +74,8 @@ pub record IsServed (V : Type 0) (most : ℕ) (table : Rows) (step : LogbookSyst
   pub reply : (system : LogbookSystem) → V → Stands table logs made o.view system → IfOk result (λ told. told ≡ reply_of (step system))
   pub state : (system : LogbookSystem) → V → Stands table logs made o.view system → OnOk result (Stands table new_logs new_made e.view (state_after system (step system)))
   pub any_moment : (system : LogbookSystem) → V → Stands table logs made o.view system → Leaves (AreBeforeOrAfter (sites_of logs) system.books (state_after system (step system)).books) o e
-  pub shown : (system : LogbookSystem) → V → Stands table logs made o.view system → AreBeforeOrAfter (sites_of logs) system.books (state_after system (step system)).books e.view
+  pub shown : (system : LogbookSystem) → V → Stands table logs made o.view system
+      → AreBeforeOrAfter (sites_of logs) system.books (state_after system (step system)).books e.view
   pub outside : (at n : ℕ) → AreWithin at n (sites_of logs) → LeavesElsewhere at n o e
   pub outside_view : (at n : ℕ) → AreWithin at n (sites_of logs) → V → SameElsewhere at n o.view e.view
   pub settled : OnOk result (AreSettled (sites_of new_logs) e)
