@@ -127,6 +127,9 @@ show_run small.toml one_file.script one_file.told
 show_run module.toml first_run.script first_run.told
 show_run module.toml file_services.script file_services.told
 show_run module.toml directories.script directories.told
+show_run small.toml entries.script entries.told
+show_run small.toml ports_and_modes.script ports_and_modes.told
+show_run module_m.toml flight.script flight.told
 echo
 echo "These are the lines of the files examples/*.told, worked out apart from the program."
 show_format small.toml 197
