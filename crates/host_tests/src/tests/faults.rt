@@ -84,7 +84,8 @@ fn each_read_fails(alloc: Global) -> Result<bool, OutOfMemory> {
     let mut good = rig_of(alloc, stored.view(), failing(alloc, &[])?)?;
     let ended = run_on(alloc, SMALL, READ_TWICE, &mut good)?;
     let reads = good.made(CallKind::Read);
-    for number in 1..reads + 1 {
+    for before in 0..reads {
+        let number = before + 1;
         if read_fails(alloc, stored.view(), number)? != Some(number < reads) {
             return Ok(false);
         }
