@@ -2,16 +2,15 @@
 
 ghost use Rattle.std.specs.Prelude.{◌≡◌, ◌≤◌, map, length, option_map, IfSome, ◌<◌};
 ghost use Rattle.std.specs.List.{list_all};
-ghost use Rattle.script_model.specs.Reading.{is_printable, one, verb_at, if_offered, call_at, ticks_at, partition_at, deed_from_words, deed_at};
+ghost use Rattle.script_model.specs.Reading.{is_printable, one, call_at, ticks_at, partition_at, deed_from_words, deed_at};
 ghost use Rattle.apex_types.specs.declared.calls.Deed.{Deed};
 ghost use Rattle.call_script.specs.Gives.{Gives};
 
 use crate::arguments::{number, one};
 use crate::calls::{arguments_of, verb};
-use crate::offered::is_offered;
 use crate::words::words_of;
 use apex_types::{Call, Deed, PartitionId, Table};
-use script_model::{LineFault, Verb};
+use script_model::LineFault;
 use std::alloc::Global;
 
 /// A number of ticks.
@@ -25,24 +24,14 @@ fn ticks(word: &[u8]) -> Result<u32, LineFault>
     Ok(ticks)
 }
 
-/// The call or directive of a word, if it is offered.
-fn offered_verb(word: &[u8]) -> Option<Verb>
-    ensures { result ≡ if_offered (verb_at word.now) }
-{
-    match verb(word) {
-        Some(verb) => if is_offered(verb) { Some(verb) } else { None },
-        None => None,
-    }
-}
-
-/// The call of some words, the first of which names it.
+/// The call or directive of some words, the first of which names it.
 #[tactic(auto, unfolding(script_model::specs::Reading::call_at))]
 fn call_of(alloc: Global, words: &[&[u8]]) -> Result<Call, LineFault>
     ensures { Gives (λ c. c) result (call_at (map (λ w. w.now) words.now)) }
 {
     match words {
         [] => Err(LineFault::UnknownCall),
-        [word, arguments @ ..] => match offered_verb(word) {
+        [word, arguments @ ..] => match verb(word) {
             Some(verb) => arguments_of(alloc, verb, arguments),
             None => Err(LineFault::UnknownCall),
         },

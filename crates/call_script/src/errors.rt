@@ -13,7 +13,7 @@ pub enum ScriptError {
     NotAscii { line: u32 },
     /// The first word is neither TICK nor a partition.
     UnknownPartition { line: u32 },
-    /// No call or directive that is offered.
+    /// The second word is missing, or no call or directive.
     UnknownCall { line: u32 },
     /// Another number of words, an empty word or a wrong keyword.
     WrongArguments { line: u32 },

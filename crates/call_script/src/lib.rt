@@ -5,7 +5,6 @@ mod arguments;
 mod calls;
 mod deeds;
 mod errors;
-mod offered;
 mod parse;
 mod reply;
 mod reply_text;

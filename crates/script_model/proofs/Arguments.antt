@@ -1,6 +1,5 @@
 -- The words of a call: what is read is spelled so, and what is spelled so is read.
-use Rattle.std.proofs.Common.{◌≡◌, ℕ, ◌<◌, true, List, [], ◌∷◌, length, Option, Some, None, Result, Ok, refl, sym, ap, subst, ◌∙◌, codes, lit<, ◌⊎◌, inl, inr, option_map}
-use Rattle.std.proofs.lemmas.Bool.{cases_Bool}
+use Rattle.std.proofs.Common.{◌≡◌, ℕ, ◌<◌, List, [], ◌∷◌, length, Option, Some, None, Result, Ok, refl, sym, ap, subst, ◌∙◌, codes, lit<, ◌⊎◌, inl, inr, option_map}
 use Rattle.std.specs.List.{AllByRecursion}
 use Rattle.script_model.specs.declared.faults.LineFault.{LineFault}
 use Rattle.script_model.specs.declared.faults.LineFault.TheVariants.{UnknownCall}
@@ -24,9 +23,9 @@ use Rattle.script_model.specs.declared.verbs.Verb.{Verb}
 use Rattle.script_model.specs.declared.verbs.Verb.TheVariants as verbs
 use Rattle.apex_types.specs.declared.calls.Call.{Call}
 use Rattle.apex_types.specs.declared.calls.Call.TheVariants.{File, Directory, Logbook, Sampling, SetMode, SetContext}
-use Rattle.script_model.specs.Offered.{is_offered, verb_of, file_verb_of, directory_verb_of, logbook_verb_of, sampling_verb_of}
+use Rattle.script_model.proofs.Naming.{file_verb_of, directory_verb_of, logbook_verb_of, sampling_verb_of}
 use Rattle.script_model.specs.Spelling.{Field, keyword, word, number, offset, bytes, AreSpelled, call_fields, file_fields, directory_fields, logbook_fields, sampling_fields, open_mode_word, whence_word, mode_word, context_word}
-use Rattle.script_model.specs.Reading.{both, or_fault, find_word, file_verbs, directory_verbs, logbook_verbs, sampling_verbs, directive_verbs, or_else, verb_at, if_offered, file_arguments, directory_arguments, logbook_arguments, sampling_arguments, word_at, number_at, offset_at, data_at, open_mode_at, whence_at, mode_at, context_at, one, two, three, arguments_at, call_at}
+use Rattle.script_model.specs.Reading.{both, or_fault, find_word, file_verbs, directory_verbs, logbook_verbs, sampling_verbs, directive_verbs, or_else, verb_at, file_arguments, directory_arguments, logbook_arguments, sampling_arguments, word_at, number_at, offset_at, data_at, open_mode_at, whence_at, mode_at, context_at, one, two, three, arguments_at, call_at}
 use Rattle.script_model.proofs.Steps.{IsReader, bind_ok, both_ok, filled_ok, filled_is, or_fault_ok}
 use Rattle.script_model.proofs.Numbers.{number_reader, offset_reader}
 use Rattle.script_model.proofs.Data.{data_reader}
@@ -577,67 +576,31 @@ arguments_say verbs.Context ws c e =
     let s = one_says (λ m. keyword (context_word m)) context_at context_reader SetContext ws c e in
     says call_fields (codes "CONTEXT") ws _ c _ (lit< tt) s.1 s.2 refl
 
--- a verb that is found is offered
-found_offered : (o : Option Verb) (verb : Verb) → if_offered o ≡ Some verb → (o ≡ Some verb) × (is_offered verb ≡ true)
-found_offered None verb e = absurd cc
-found_offered (Some found) verb e =
-    elim (cases_Bool (is_offered found)) [
-      | inl offered ↦
-          let here : some_verb found ≡ Some verb = rw offered at e in
-          let same : found ≡ verb = cc in
-          (ap (λ (v : Verb). Some v) same, rw (← same) offered)
-      | inr withheld ↦
-          let nothing : no_verb ≡ Some verb = rw withheld at e in
-          absurd cc
-    ]
+-- what the words of a call are read as, they say
+say_call : (verb : Verb) (w : List ℕ) (ws : List (List ℕ)) (c : Call) → w ≡ verb_word verb → arguments_at verb ws ≡ Ok c → Say (call_fields c) (w ∷ ws)
+say_call verb w ws c first e = rw first (arguments_say verb ws c e)
 
--- the verb that a call's first word names
-first_is : (c : Call) (w : List ℕ) (ws : List (List ℕ)) → Say (call_fields c) (w ∷ ws) → w ≡ verb_word (verb_of c)
-first_is (File c) w ws s = (file_again c w ws s).first
-first_is (Directory c) w ws s = (directory_again c w ws s).first
-first_is (Logbook c) w ws s = (logbook_again c w ws s).first
-first_is (Sampling c) w ws s = (sampling_again c w ws s).first
-first_is (SetMode mode) w ws s = s.spelled.0
-first_is (SetContext context) w ws s = s.spelled.0
-
-verb_same : (v u : Verb) → verb_word v ≡ verb_word u → v ≡ u
-verb_same v u h =
-    let e : some_verb v ≡ some_verb u = sym (verb_found v) ∙ ap verb_at h ∙ verb_found u in
-    cc
-
--- what the words of a call are read as, they say, and it is offered
-pub record SayCall (c : Call) (ws : List (List ℕ)) : Type 0 where
-  pub say : Say (call_fields c) ws
-  pub offered : is_offered (verb_of c) ≡ true
-
-say_call : (verb : Verb) (w : List ℕ) (ws : List (List ℕ)) (c : Call) → w ≡ verb_word verb → is_offered verb ≡ true → arguments_at verb ws ≡ Ok c → SayCall c (w ∷ ws)
-say_call verb w ws c first offered e =
-    let s = arguments_say verb ws c e in
-    let same : verb ≡ verb_of c = verb_same verb (verb_of c) (first_is c (verb_word verb) ws s) in
-    record { say = rw first s; offered = rw same at offered }
-
-pub call_says : (ws : List (List ℕ)) (c : Call) → call_at ws ≡ Ok c → SayCall c ws
+pub call_says : (ws : List (List ℕ)) (c : Call) → call_at ws ≡ Ok c → Say (call_fields c) ws
 unfolding call_at IsWordOf
 call_says [] c e = absurd cc
 call_says (w ∷ ws) c e =
-    let v = bind_ok (or_fault UnknownCall (if_offered (verb_at w))) (λ verb. arguments_at verb ws) c e in
-    let o = found_offered (verb_at w) v.0 (or_fault_ok UnknownCall (if_offered (verb_at w)) v.0 v.1) in
-    let found = verb_is w v.0 o.0 in
-    say_call v.0 w ws c found.0 o.1 v.2
+    let v = bind_ok (or_fault UnknownCall (verb_at w)) (λ verb. arguments_at verb ws) c e in
+    let found = verb_is w v.0 (or_fault_ok UnknownCall (verb_at w) v.0 v.1) in
+    say_call v.0 w ws c found.0 v.2
 
 -- what says a call is read as that call
-named : (verb : Verb) (w : List ℕ) (ws : List (List ℕ)) → w ≡ verb_word verb → is_offered verb ≡ true → call_at (w ∷ ws) ≡ arguments_at verb ws
+named : (verb : Verb) (w : List ℕ) (ws : List (List ℕ)) → w ≡ verb_word verb → call_at (w ∷ ws) ≡ arguments_at verb ws
 unfolding call_at
-named verb w ws same offered = rw (same, verb_found verb, offered) refl
+named verb w ws same = rw (same, verb_found verb) refl
 
 no_words : (f : Field) (fs : List Field) → Say (f ∷ fs) [] → ⊥
 no_words f fs s = s.spelled
 
-file_call : (c : FileCall) (w : List ℕ) (ws : List (List ℕ)) → is_offered (verbs.File (file_verb_of c)) ≡ true → Say (file_fields c) (w ∷ ws) → call_at (w ∷ ws) ≡ Ok (File c)
+file_call : (c : FileCall) (w : List ℕ) (ws : List (List ℕ)) → Say (file_fields c) (w ∷ ws) → call_at (w ∷ ws) ≡ Ok (File c)
 unfolding arguments_at
-file_call c w ws offered s =
+file_call c w ws s =
     let n = file_again c w ws s in
-    named (verbs.File (file_verb_of c)) w ws n.first offered ∙ rw n.rest refl
+    named (verbs.File (file_verb_of c)) w ws n.first ∙ rw n.rest refl
 
 file_none : (c : FileCall) → Say (file_fields c) [] → ⊥
 file_none (file.OpenNewFile path) s = s.spelled
@@ -653,11 +616,11 @@ file_none (file.RenameFile old new) s = s.spelled
 file_none (file.GetFileStatus id) s = s.spelled
 file_none (file.GetVolumeStatus path) s = s.spelled
 
-directory_call : (c : DirCall) (w : List ℕ) (ws : List (List ℕ)) → is_offered (verbs.Directory (directory_verb_of c)) ≡ true → Say (directory_fields c) (w ∷ ws) → call_at (w ∷ ws) ≡ Ok (Directory c)
+directory_call : (c : DirCall) (w : List ℕ) (ws : List (List ℕ)) → Say (directory_fields c) (w ∷ ws) → call_at (w ∷ ws) ≡ Ok (Directory c)
 unfolding arguments_at
-directory_call c w ws offered s =
+directory_call c w ws s =
     let n = directory_again c w ws s in
-    named (verbs.Directory (directory_verb_of c)) w ws n.first offered ∙ rw n.rest refl
+    named (verbs.Directory (directory_verb_of c)) w ws n.first ∙ rw n.rest refl
 
 directory_none : (c : DirCall) → Say (directory_fields c) [] → ⊥
 directory_none (directory.OpenDirectory path) s = s.spelled
@@ -668,11 +631,11 @@ directory_none (directory.MakeDirectory path) s = s.spelled
 directory_none (directory.RemoveDirectory path) s = s.spelled
 directory_none (directory.SyncDirectory id) s = s.spelled
 
-logbook_call : (c : LogbookCall) (w : List ℕ) (ws : List (List ℕ)) → is_offered (verbs.Logbook (logbook_verb_of c)) ≡ true → Say (logbook_fields c) (w ∷ ws) → call_at (w ∷ ws) ≡ Ok (Logbook c)
+logbook_call : (c : LogbookCall) (w : List ℕ) (ws : List (List ℕ)) → Say (logbook_fields c) (w ∷ ws) → call_at (w ∷ ws) ≡ Ok (Logbook c)
 unfolding arguments_at
-logbook_call c w ws offered s =
+logbook_call c w ws s =
     let n = logbook_again c w ws s in
-    named (verbs.Logbook (logbook_verb_of c)) w ws n.first offered ∙ rw n.rest refl
+    named (verbs.Logbook (logbook_verb_of c)) w ws n.first ∙ rw n.rest refl
 
 logbook_none : (c : LogbookCall) → Say (logbook_fields c) [] → ⊥
 logbook_none (logbook.Create name) s = s.spelled
@@ -683,11 +646,11 @@ logbook_none (logbook.Clear id) s = s.spelled
 logbook_none (logbook.GetId name) s = s.spelled
 logbook_none (logbook.GetStatus id) s = s.spelled
 
-sampling_call : (c : SamplingCall) (w : List ℕ) (ws : List (List ℕ)) → is_offered (verbs.Sampling (sampling_verb_of c)) ≡ true → Say (sampling_fields c) (w ∷ ws) → call_at (w ∷ ws) ≡ Ok (Sampling c)
+sampling_call : (c : SamplingCall) (w : List ℕ) (ws : List (List ℕ)) → Say (sampling_fields c) (w ∷ ws) → call_at (w ∷ ws) ≡ Ok (Sampling c)
 unfolding arguments_at
-sampling_call c w ws offered s =
+sampling_call c w ws s =
     let n = sampling_again c w ws s in
-    named (verbs.Sampling (sampling_verb_of c)) w ws n.first offered ∙ rw n.rest refl
+    named (verbs.Sampling (sampling_verb_of c)) w ws n.first ∙ rw n.rest refl
 
 sampling_none : (c : SamplingCall) → Say (sampling_fields c) [] → ⊥
 sampling_none (sampling.Create name) s = s.spelled
@@ -696,19 +659,19 @@ sampling_none (sampling.ReadUpdated id) s = s.spelled
 sampling_none (sampling.CurrentStatus id) s = s.spelled
 sampling_none (sampling.ReadConditional id time) s = s.spelled
 
-pub call_again : (c : Call) (ws : List (List ℕ)) → is_offered (verb_of c) ≡ true → Say (call_fields c) ws → call_at ws ≡ Ok c
+pub call_again : (c : Call) (ws : List (List ℕ)) → Say (call_fields c) ws → call_at ws ≡ Ok c
 unfolding arguments_at
-call_again (File c) [] offered s = absurd (file_none c s)
-call_again (File c) (w ∷ ws) offered s = file_call c w ws offered s
-call_again (Directory c) [] offered s = absurd (directory_none c s)
-call_again (Directory c) (w ∷ ws) offered s = directory_call c w ws offered s
-call_again (Logbook c) [] offered s = absurd (logbook_none c s)
-call_again (Logbook c) (w ∷ ws) offered s = logbook_call c w ws offered s
-call_again (Sampling c) [] offered s = absurd (sampling_none c s)
-call_again (Sampling c) (w ∷ ws) offered s = sampling_call c w ws offered s
-call_again (SetMode mode) [] offered s = absurd s.spelled
-call_again (SetMode mode) (w ∷ ws) offered s =
-    named verbs.Mode w ws s.spelled.0 offered ∙ one_again (λ m. keyword (mode_word m)) mode_at mode_reader SetMode ws mode (record { spelled = s.spelled.1; filled = s.filled.1 })
-call_again (SetContext context) [] offered s = absurd s.spelled
-call_again (SetContext context) (w ∷ ws) offered s =
-    named verbs.Context w ws s.spelled.0 offered ∙ one_again (λ m. keyword (context_word m)) context_at context_reader SetContext ws context (record { spelled = s.spelled.1; filled = s.filled.1 })
+call_again (File c) [] s = absurd (file_none c s)
+call_again (File c) (w ∷ ws) s = file_call c w ws s
+call_again (Directory c) [] s = absurd (directory_none c s)
+call_again (Directory c) (w ∷ ws) s = directory_call c w ws s
+call_again (Logbook c) [] s = absurd (logbook_none c s)
+call_again (Logbook c) (w ∷ ws) s = logbook_call c w ws s
+call_again (Sampling c) [] s = absurd (sampling_none c s)
+call_again (Sampling c) (w ∷ ws) s = sampling_call c w ws s
+call_again (SetMode mode) [] s = absurd s.spelled
+call_again (SetMode mode) (w ∷ ws) s =
+    named verbs.Mode w ws s.spelled.0 ∙ one_again (λ m. keyword (mode_word m)) mode_at mode_reader SetMode ws mode (record { spelled = s.spelled.1; filled = s.filled.1 })
+call_again (SetContext context) [] s = absurd s.spelled
+call_again (SetContext context) (w ∷ ws) s =
+    named verbs.Context w ws s.spelled.0 ∙ one_again (λ m. keyword (context_word m)) context_at context_reader SetContext ws context (record { spelled = s.spelled.1; filled = s.filled.1 })

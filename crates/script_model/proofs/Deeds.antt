@@ -114,7 +114,7 @@ call_deed rows h w ws deed e =
     let p = partition_ok rows w x.0 (or_fault_ok UnknownPartition (partition_at rows w) x.0 x.1) in
     let c = call_says ws y.0 y.1 in
     let named = h.words x.0 p.0 in
-    let s : SayDeed rows (Partition (record { 0 = x.0 }) y.0) (w ∷ ws) = record { say = record { spelled = (p.1, c.say.spelled); filled = (rw p.1 named.nonempty, c.say.filled) }; of_table = (p.0, c.offered) } in
+    let s : SayDeed rows (Partition (record { 0 = x.0 }) y.0) (w ∷ ws) = record { say = record { spelled = (p.1, c.spelled); filled = (rw p.1 named.nonempty, c.filled) }; of_table = p.0 } in
     let same : Partition (record { 0 = x.0 }) y.0 ≡ deed = cc (y.2) in
     subst (λ (d : Deed). SayDeed rows d (w ∷ ws)) same s
 
@@ -141,8 +141,8 @@ deed_again rows h (Tick n) (w ∷ ws) s =
     rw s.say.spelled.0 (tick_again ws n (record { spelled = s.say.spelled.1; filled = s.say.filled.1 }) s.of_table.0 s.of_table.1)
 deed_again rows h (Partition p call) [] s = absurd s.say.spelled
 deed_again rows h (Partition p call) (w ∷ ws) s =
-    let c = call_again call ws s.of_table.1 (record { spelled = s.say.spelled.1; filled = s.say.filled.1 }) in
-    rw (s.say.spelled.0, no_tick rows h p.0 s.of_table.0, partition_is rows h p.0 s.of_table.0, c) refl
+    let c = call_again call ws (record { spelled = s.say.spelled.1; filled = s.say.filled.1 }) in
+    rw (s.say.spelled.0, no_tick rows h p.0 s.of_table, partition_is rows h p.0 s.of_table, c) refl
 
 -- ---- the text of a line
 

@@ -1,54 +1,47 @@
--- Worked lines, by computation: calls and directives that are read, whether they are offered or not.
-use Rattle.std.specs.Prelude.{◌≡◌, ℕ, List, [], ◌∷◌, Result, Ok, Err, codes, refl}
-use Rattle.apex_types.specs.declared.calls.Call.{Call}
+-- Worked lines, by computation: calls and directives that are read, and refused.
+use Rattle.std.specs.Prelude.{◌≡◌, ℕ, [], ◌∷◌, Ok, Err, codes, refl}
 use Rattle.apex_types.specs.declared.calls.Call.TheVariants.{Logbook, Sampling, SetMode, SetContext}
 use Rattle.apex_types.specs.declared.calls.Context.TheVariants.{Handler}
 use Rattle.apex_types.specs.declared.calls.LogbookCall.TheVariants as logbook
 use Rattle.apex_types.specs.declared.calls.Mode.TheVariants.{ColdStart}
 use Rattle.apex_types.specs.declared.calls.SamplingCall.TheVariants as sampling
 use Rattle.hex.specs.Hex.{decode_pairs}
-use Rattle.script_model.specs.declared.faults.LineFault.{LineFault}
 use Rattle.script_model.specs.declared.faults.LineFault.TheVariants.{UnknownCall, WrongArguments, BadNumber, BadData}
-use Rattle.script_model.specs.Reading.{◌>>=◌, or_fault, words_of, number_of, verb_at, arguments_at, logbook_arguments, sampling_arguments}
-
--- the call or directive of some words
-abbrev call_in : List (List ℕ) → Result Call LineFault
-call_in [] = Err UnknownCall
-call_in (word ∷ words) = or_fault UnknownCall (verb_at word) >>= λ verb. arguments_at verb words
+use Rattle.script_model.specs.Reading.{words_of, number_of, verb_at, call_at, arguments_at, logbook_arguments, sampling_arguments}
 
 -- what the examples compute with
 unfoldable everything : ℕ
-unfolding verb_at arguments_at logbook_arguments sampling_arguments number_of decode_pairs
+unfolding call_at verb_at arguments_at logbook_arguments sampling_arguments number_of decode_pairs
 everything = 0
 
-logbook_read : call_in (words_of (codes "READ_LOGBOOK 2 0")) ≡ Ok (Logbook (logbook.Read 2 0))
+logbook_read : call_at (words_of (codes "READ_LOGBOOK 2 0")) ≡ Ok (Logbook (logbook.Read 2 0))
 unfolding everything
 logbook_read = refl
 
-message_written : call_in (words_of (codes "WRITE_SAMPLING_MESSAGE 1 c0")) ≡ Ok (Sampling (sampling.Write 1 (192 ∷ [])))
+message_written : call_at (words_of (codes "WRITE_SAMPLING_MESSAGE 1 c0")) ≡ Ok (Sampling (sampling.Write 1 (192 ∷ [])))
 unfolding everything
 message_written = refl
 
-mode_set : call_in (words_of (codes "MODE COLD_START")) ≡ Ok (SetMode ColdStart)
+mode_set : call_at (words_of (codes "MODE COLD_START")) ≡ Ok (SetMode ColdStart)
 unfolding everything
 mode_set = refl
 
-context_set : call_in (words_of (codes "CONTEXT HANDLER")) ≡ Ok (SetContext Handler)
+context_set : call_at (words_of (codes "CONTEXT HANDLER")) ≡ Ok (SetContext Handler)
 unfolding everything
 context_set = refl
 
-mode_in_small_letters : call_in (words_of (codes "MODE idle")) ≡ Err WrongArguments
+mode_in_small_letters : call_at (words_of (codes "MODE idle")) ≡ Err WrongArguments
 unfolding everything
 mode_in_small_letters = refl
 
-half_a_byte : call_in (words_of (codes "WRITE_LOGBOOK 1 0")) ≡ Err BadData
+half_a_byte : call_at (words_of (codes "WRITE_LOGBOOK 1 0")) ≡ Err BadData
 unfolding everything
 half_a_byte = refl
 
-zero_before_digits : call_in (words_of (codes "CLEAR_LOGBOOK 01")) ≡ Err BadNumber
+zero_before_digits : call_at (words_of (codes "CLEAR_LOGBOOK 01")) ≡ Err BadNumber
 unfolding everything
 zero_before_digits = refl
 
-no_such_call : call_in (words_of (codes "READ")) ≡ Err UnknownCall
+no_such_call : call_at (words_of (codes "READ")) ≡ Err UnknownCall
 unfolding everything
 no_such_call = refl

@@ -25,7 +25,7 @@ use Rattle.script_model.specs.declared.verbs.Verb.TheVariants as verbs
 use Rattle.apex_types.specs.declared.calls.Call.TheVariants.{File, Directory, Logbook, Sampling, SetMode, SetContext}
 use Rattle.apex_types.specs.declared.calls.Deed.{Deed}
 use Rattle.apex_types.specs.declared.calls.Deed.TheVariants.{Tick, Partition}
-use Rattle.script_model.specs.Reading.{◌>>=◌, rank, earlier, both, or_fault, find_word, open_modes, whences, modes, contexts, word_at, number_of, number_at, ticks_at, offset_of, offset_at, data_or_fault, data_at, open_mode_at, whence_at, mode_at, context_at, one_word, two_words, three_words, one, file_arguments, directory_arguments, logbook_arguments, sampling_arguments, verb_at, if_offered, arguments_at, call_at, partition_at, deed_from_words, words_of, is_printable, deed_at}
+use Rattle.script_model.specs.Reading.{◌>>=◌, rank, earlier, both, or_fault, find_word, open_modes, whences, modes, contexts, word_at, number_of, number_at, ticks_at, offset_of, offset_at, data_or_fault, data_at, open_mode_at, whence_at, mode_at, context_at, one_word, two_words, three_words, one, file_arguments, directory_arguments, logbook_arguments, sampling_arguments, verb_at, arguments_at, call_at, partition_at, deed_from_words, words_of, is_printable, deed_at}
 use Rattle.script_model.specs.Faults.{Kind, path, number, ticks, offset, data_bytes, keyword, words_in, file_kinds, directory_kinds, logbook_kinds, sampling_kinds, kinds_of, is_ticks, word_fails, words_fail, verb_fails, call_fails, words_of_line_fail, line_fails, FirstFault}
 
 or_false : (b c : Bool) → b ≡ false → c ≡ false → (b || c) ≡ false
@@ -309,7 +309,7 @@ finds_verb (Some verb) ws = lower 5 4 (arguments_at verb ws) (λ n. words_fail n
 finds_call : (ws : List (List ℕ)) → FirstFault 4 (call_at ws) (λ n. call_fails n ws)
 unfolding call_at
 finds_call [] = cause 4 UnknownCall (lit≤ tt)
-finds_call (w ∷ ws) = finds_verb (if_offered (verb_at w)) ws
+finds_call (w ∷ ws) = finds_verb (verb_at w) ws
 
 -- a step that is refused for a cause of its own, before what comes after it
 gated : {A B : Type 0} (lowest : ℕ) (o : Option A) (e : LineFault) (next : A → Result B LineFault) (f : ℕ → Bool) → rank e ≡ lowest → ((x : A) → FirstFault (suc lowest) (next x) f) → ((m : ℕ) → m < suc lowest → f m ≡ false)

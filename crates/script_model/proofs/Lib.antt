@@ -2,6 +2,7 @@ pub mod Steps
 pub mod Numbers
 pub mod Data
 pub mod Keywords
+pub mod Naming
 pub mod Arguments
 pub mod Cuts
 pub mod Deeds

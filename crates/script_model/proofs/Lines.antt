@@ -78,7 +78,7 @@ partition_bytes name c (w ∷ ws) s = call_bytes c ws s.1
 -- what a text spells is a tick or a call of the table
 deed_of_table : (rows : Rows) (text : List ℕ) (d : Deed) → Spells rows text d → IsDeedOf rows d
 deed_of_table rows text (Tick n) s = s.of_table
-deed_of_table rows text (Partition p c) s = (s.of_table.0, partition_bytes (partition_name rows p.0) c s.words s.fields)
+deed_of_table rows text (Partition p c) s = (s.of_table, partition_bytes (partition_name rows p.0) c s.words s.fields)
 
 line_of_table : (rows : Rows) (n : ℕ) (text : List ℕ) (line : Line) → 1 ≤ n → n ≤ 20000 → line.number ≡ n → Spells rows text line.deed → IsLineOf rows line
 line_of_table rows n text line low high same s = record { numbered = omega (arith, same); few = omega (arith, same); deed = deed_of_table rows text line.deed s }

@@ -14,7 +14,7 @@ use Rattle.script_model.specs.declared.verbs.SamplingVerb.{SamplingVerb}
 use Rattle.script_model.specs.declared.verbs.SamplingVerb.TheVariants as sampling_verb
 use Rattle.script_model.specs.declared.verbs.Verb.{Verb}
 use Rattle.script_model.specs.declared.verbs.Verb.TheVariants as verbs
-use Rattle.script_model.specs.Reading.{rank, number_of, offset_of, verb_at, if_offered, partition_at, words_of, is_printable, open_modes, whences, modes, contexts}
+use Rattle.script_model.specs.Reading.{rank, number_of, offset_of, verb_at, partition_at, words_of, is_printable, open_modes, whences, modes, contexts}
 
 -- ---- the arguments of each call
 
@@ -112,14 +112,14 @@ words_fail n [] (w ∷ ws) = n == 5
 words_fail n (kind ∷ kinds) [] = n == 5
 words_fail n (kind ∷ kinds) (w ∷ ws) = word_fails n kind w || words_fail n kinds ws
 
--- 4: the second word is missing, or no call or directive that is offered
+-- 4: the second word is missing, or no call or directive
 abbrev pub verb_fails : ℕ → Option Verb → List (List ℕ) → Bool
 verb_fails n None ws = n == 4
 verb_fails n (Some verb) ws = words_fail n (kinds_of verb) ws
 
 abbrev pub call_fails : ℕ → List (List ℕ) → Bool
 call_fails n [] = n == 4
-call_fails n (w ∷ ws) = verb_fails n (if_offered (verb_at w)) ws
+call_fails n (w ∷ ws) = verb_fails n (verb_at w) ws
 
 -- 3: the first word is neither TICK nor a partition
 abbrev pub words_of_line_fail : Rows → ℕ → List (List ℕ) → Bool

@@ -1,5 +1,4 @@
 pub mod Spelling
-pub mod Offered
 pub mod Reading
 pub mod Script
 pub mod Refusals

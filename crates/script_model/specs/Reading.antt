@@ -34,7 +34,6 @@ use Rattle.script_model.specs.declared.verbs.SamplingVerb.{SamplingVerb}
 use Rattle.script_model.specs.declared.verbs.SamplingVerb.TheVariants as sampling_verb
 use Rattle.script_model.specs.declared.verbs.Verb.{Verb}
 use Rattle.script_model.specs.declared.verbs.Verb.TheVariants as verbs
-use Rattle.script_model.specs.Offered.{is_offered}
 use Rattle.apex_types.specs.declared.calls.Call.{Call}
 use Rattle.apex_types.specs.declared.calls.Call.TheVariants.{File, Directory, Logbook, Sampling, SetMode, SetContext}
 use Rattle.apex_types.specs.declared.calls.Deed.{Deed}
@@ -300,14 +299,10 @@ arguments_at (verbs.Sampling verb) ws = sampling_arguments verb ws >>= λ call. 
 arguments_at verbs.Mode ws = one mode_at SetMode ws
 arguments_at verbs.Context ws = one context_at SetContext ws
 
--- a call or directive that is offered
-abbrev pub if_offered : Option Verb → Option Verb
-if_offered None = None
-if_offered (Some verb) = if is_offered verb then Some verb else None
-
+-- a call or directive by its words: its own word, and its arguments
 unfoldable pub call_at : List (List ℕ) → Result Call LineFault
 call_at [] = Err UnknownCall
-call_at (w ∷ ws) = or_fault UnknownCall (if_offered (verb_at w)) >>= λ verb. arguments_at verb ws
+call_at (w ∷ ws) = or_fault UnknownCall (verb_at w) >>= λ verb. arguments_at verb ws
 
 -- ---- a line
 

@@ -23,7 +23,6 @@ use Rattle.apex_types.specs.declared.calls.Call.{Call}
 use Rattle.apex_types.specs.declared.calls.Call.TheVariants.{File, Directory, Logbook, Sampling, SetMode, SetContext}
 use Rattle.apex_types.specs.declared.calls.Deed.{Deed}
 use Rattle.apex_types.specs.declared.calls.Deed.TheVariants.{Tick, Partition}
-use Rattle.script_model.specs.Offered.{is_offered, verb_of}
 
 -- ---- the words of a line
 
@@ -145,10 +144,10 @@ abbrev pub deed_fields : Rows → Deed → List Field
 deed_fields rows (Tick n) = keyword (codes "TICK") ∷ number n ∷ []
 deed_fields rows (Partition p call) = keyword (partition_name rows p.0) ∷ call_fields call
 
--- a tick of 1 to 100,000, or a call that is offered, of a partition of the table
+-- a tick of 1 to 100,000, or a call or directive of a partition of the table
 abbrev pub IsDeed : Rows → Deed → Type 0
 IsDeed rows (Tick n) = (1 ≤ n) × (n ≤ 100000)
-IsDeed rows (Partition p call) = (p.0 < length rows.partitions) × (is_offered (verb_of call) ≡ true)
+IsDeed rows (Partition p call) = p.0 < length rows.partitions
 
 -- The text says this: its words say the parts one after the other, with single spaces between them.
 pub record Spells (rows : Rows) (text : List ℕ) (deed : Deed) : Type 0 where

@@ -13,9 +13,9 @@ const TABLE: &[u8] = b"partition = [{ name = \"FMS\" }, { name = \"DISP\" }]";
 
 /// Lines, each with the condition by which a script of this line alone is refused.
 const REFUSED: &str = "FMS -> UnknownCall
-FMS READ_LOGBOOK 1 1 -> UnknownCall
-FMS MODE IDLE -> UnknownCall
 FMS READ -> UnknownCall
+FMS read_logbook 1 1 -> UnknownCall
+FMS MODES IDLE -> UnknownCall
 fms GET_FILE_STATUS 1 -> UnknownPartition
  FMS -> UnknownPartition
 FMS GET_FILE_STATUS -> WrongArguments
@@ -42,6 +42,42 @@ TICK 1\r\r -> NotAscii
 \0 -> NotAscii
 ";
 
+/// Lines of logbooks, sampling ports, modes and contexts, each with the condition by which it is refused.
+const REFUSED_BESIDE_FILES: &str = "FMS CREATE_LOGBOOK é -> NotAscii
+fms CREATE_LOGBOOK  -> UnknownPartition
+FMS CREATE_LOGBOOK -> WrongArguments
+FMS CREATE_LOGBOOK  -> WrongArguments
+FMS CREATE_LOGBOOK FAULTS 1 -> WrongArguments
+FMS WRITE_LOGBOOK 01  -> WrongArguments
+FMS WRITE_LOGBOOK 01 0g -> BadNumber
+FMS WRITE_LOGBOOK 1 0g -> BadData
+FMS OVERWRITE_LOGBOOK x -> WrongArguments
+FMS OVERWRITE_LOGBOOK 4294967296 000 -> BadNumber
+FMS OVERWRITE_LOGBOOK 1 .. -> BadData
+FMS READ_LOGBOOK 1 -> WrongArguments
+FMS READ_LOGBOOK 1 -1 -> BadNumber
+FMS CLEAR_LOGBOOK FAULTS 1 -> WrongArguments
+FMS CLEAR_LOGBOOK FAULTS -> BadNumber
+FMS GET_LOGBOOK_ID FAULTS FAULTS -> WrongArguments
+FMS GET_LOGBOOK_STATUS 00 -> BadNumber
+FMS CREATE_SAMPLING_PORT  ALT -> WrongArguments
+FMS WRITE_SAMPLING_MESSAGE ALT  -> WrongArguments
+FMS WRITE_SAMPLING_MESSAGE ALT 5 -> BadNumber
+FMS WRITE_SAMPLING_MESSAGE 1 5 -> BadData
+FMS READ_UPDATED_SAMPLING_MESSAGE -1 -> BadNumber
+FMS GET_SAMPLING_PORT_CURRENT_STATUS 1 1 -> WrongArguments
+FMS GET_SAMPLING_PORT_CURRENT_STATUS ALT -> BadNumber
+FMS READ_SAMPLING_MESSAGE_CONDITIONAL x -> WrongArguments
+FMS READ_SAMPLING_MESSAGE_CONDITIONAL 1 4294967296 -> BadNumber
+FMS MODE -> WrongArguments
+FMS MODE idle -> WrongArguments
+FMS MODE HANDLER -> WrongArguments
+FMS MODE IDLE IDLE -> WrongArguments
+FMS CONTEXT  -> WrongArguments
+FMS CONTEXT Locked -> WrongArguments
+FMS CONTEXT NORMAL -> WrongArguments
+";
+
 /// A comment, a tick, a blank line and four calls, with both ends that a line may have, and none.
 const LINES: &[u8] =
     b"# a comment\r\nTICK 100000\r\n\nDISP GET_FILE_STATUS 4294967295\nFMS WRITE_FILE 7 0aFf\nFMS SEEK_FILE 1 -4294967295 SEEK_END\nFMS WRITE_FILE 0 .\r";
@@ -51,7 +87,7 @@ const EMPTY: [&[u8]; 5] = [b"", b"# note", b"\n", b"\r", b"\n\r\n#"];
 
 /// The table of the two partitions.
 #[tactic(auto, using(script_model::proofs::Accepted::accepted_ready))]
-fn two_partitions(alloc: Global) -> Result<Table, TableError>
+pub fn two_partitions(alloc: Global) -> Result<Table, TableError>
     ensures { IfOk result (λ table. IsReady table) }
 {
     let table = read_table(alloc, TABLE)?;
@@ -163,6 +199,15 @@ fn asks_for_lines(script: &Script) -> bool {
 fn lines_are_refused_for_their_first_condition(rt: HostRuntime) -> Result<(), Fail> {
     let table = two_partitions(rt.alloc())?;
     for case in REFUSED.lines() {
+        assert!(rt; case_holds(rt.alloc(), &table, case), "{case}");
+    }
+    Ok(())
+}
+
+#[test]
+fn arguments_are_refused_for_their_first_condition(rt: HostRuntime) -> Result<(), Fail> {
+    let table = two_partitions(rt.alloc())?;
+    for case in REFUSED_BESIDE_FILES.lines() {
         assert!(rt; case_holds(rt.alloc(), &table, case), "{case}");
     }
     Ok(())

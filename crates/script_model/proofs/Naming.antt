@@ -1,5 +1,4 @@
--- Which calls and directives are offered: a line that asks for another one is refused as an unknown call.
-use Rattle.std.specs.Prelude.{Bool, true, false}
+-- A call without its arguments.
 use Rattle.apex_types.specs.declared.calls.FileCall.{FileCall}
 use Rattle.apex_types.specs.declared.calls.FileCall.TheVariants as file
 use Rattle.apex_types.specs.declared.calls.DirCall.{DirCall}
@@ -8,8 +7,6 @@ use Rattle.apex_types.specs.declared.calls.LogbookCall.{LogbookCall}
 use Rattle.apex_types.specs.declared.calls.LogbookCall.TheVariants as logbook
 use Rattle.apex_types.specs.declared.calls.SamplingCall.{SamplingCall}
 use Rattle.apex_types.specs.declared.calls.SamplingCall.TheVariants as sampling
-use Rattle.apex_types.specs.declared.calls.Call.{Call}
-use Rattle.apex_types.specs.declared.calls.Call.TheVariants.{File, Directory, Logbook, Sampling, SetMode, SetContext}
 use Rattle.script_model.specs.declared.verbs.FileVerb.{FileVerb}
 use Rattle.script_model.specs.declared.verbs.FileVerb.TheVariants as file_verb
 use Rattle.script_model.specs.declared.verbs.DirectoryVerb.{DirectoryVerb}
@@ -18,46 +15,6 @@ use Rattle.script_model.specs.declared.verbs.LogbookVerb.{LogbookVerb}
 use Rattle.script_model.specs.declared.verbs.LogbookVerb.TheVariants as logbook_verb
 use Rattle.script_model.specs.declared.verbs.SamplingVerb.{SamplingVerb}
 use Rattle.script_model.specs.declared.verbs.SamplingVerb.TheVariants as sampling_verb
-use Rattle.script_model.specs.declared.verbs.Verb.{Verb}
-use Rattle.script_model.specs.declared.verbs.Verb.TheVariants as verbs
-
--- one line for each call and directive; a tick is offered always
-unfoldable pub is_offered : Verb → Bool
-is_offered (verbs.File file_verb.OpenNewFile) = true
-is_offered (verbs.File file_verb.OpenFile) = true
-is_offered (verbs.File file_verb.CloseFile) = true
-is_offered (verbs.File file_verb.ReadFile) = true
-is_offered (verbs.File file_verb.WriteFile) = true
-is_offered (verbs.File file_verb.SeekFile) = true
-is_offered (verbs.File file_verb.ResizeFile) = true
-is_offered (verbs.File file_verb.SyncFile) = true
-is_offered (verbs.File file_verb.RemoveFile) = true
-is_offered (verbs.File file_verb.RenameFile) = true
-is_offered (verbs.File file_verb.GetFileStatus) = true
-is_offered (verbs.File file_verb.GetVolumeStatus) = true
-is_offered (verbs.Directory directory_verb.OpenDirectory) = true
-is_offered (verbs.Directory directory_verb.CloseDirectory) = true
-is_offered (verbs.Directory directory_verb.ReadDirectory) = true
-is_offered (verbs.Directory directory_verb.RewindDirectory) = true
-is_offered (verbs.Directory directory_verb.MakeDirectory) = true
-is_offered (verbs.Directory directory_verb.RemoveDirectory) = true
-is_offered (verbs.Directory directory_verb.SyncDirectory) = true
-is_offered (verbs.Logbook logbook_verb.Create) = false
-is_offered (verbs.Logbook logbook_verb.Write) = false
-is_offered (verbs.Logbook logbook_verb.Overwrite) = false
-is_offered (verbs.Logbook logbook_verb.Read) = false
-is_offered (verbs.Logbook logbook_verb.Clear) = false
-is_offered (verbs.Logbook logbook_verb.GetId) = false
-is_offered (verbs.Logbook logbook_verb.GetStatus) = false
-is_offered (verbs.Sampling sampling_verb.Create) = false
-is_offered (verbs.Sampling sampling_verb.Write) = false
-is_offered (verbs.Sampling sampling_verb.ReadUpdated) = false
-is_offered (verbs.Sampling sampling_verb.CurrentStatus) = false
-is_offered (verbs.Sampling sampling_verb.ReadConditional) = false
-is_offered verbs.Mode = false
-is_offered verbs.Context = false
-
--- ---- a call without its arguments
 
 abbrev pub file_verb_of : FileCall → FileVerb
 file_verb_of (file.OpenNewFile path) = file_verb.OpenNewFile
@@ -97,11 +54,3 @@ sampling_verb_of (sampling.Write id bs) = sampling_verb.Write
 sampling_verb_of (sampling.ReadUpdated id) = sampling_verb.ReadUpdated
 sampling_verb_of (sampling.CurrentStatus id) = sampling_verb.CurrentStatus
 sampling_verb_of (sampling.ReadConditional id time) = sampling_verb.ReadConditional
-
-abbrev pub verb_of : Call → Verb
-verb_of (File call) = verbs.File (file_verb_of call)
-verb_of (Directory call) = verbs.Directory (directory_verb_of call)
-verb_of (Logbook call) = verbs.Logbook (logbook_verb_of call)
-verb_of (Sampling call) = verbs.Sampling (sampling_verb_of call)
-verb_of (SetMode mode) = verbs.Mode
-verb_of (SetContext context) = verbs.Context
