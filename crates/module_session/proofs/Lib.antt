@@ -5,3 +5,7 @@ pub mod Ready
 mod Starting
 mod Ticked
 mod Worlds
+mod Still
+mod Sampled
+mod Restarted
+mod Entered
