@@ -1,7 +1,9 @@
-mod Called
-mod Counts
-pub mod Offers
+mod Filed
+mod LogChanges
+mod Logged
 pub mod Ready
+mod Replies
 mod Starting
+mod Taken
 mod Ticked
-mod Worlds
+mod TreeCounts
