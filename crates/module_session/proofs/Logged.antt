@@ -4,6 +4,7 @@ use Rattle.std.specs.Prelude.{Err, IfOk, Ok, OnErr, OnOk, Result}
 use Rattle.apex_types.specs.declared.calls.Call.TheVariants as call
 use Rattle.apex_types.specs.declared.calls.Deed.TheVariants as deed
 use Rattle.apex_types.specs.declared.calls.LogbookCall.{LogbookCall}
+use Rattle.apex_types.specs.declared.calls.LogbookCall.TheVariants.{Create, Write, Overwrite, Read, Clear, GetId, GetStatus}
 use Rattle.apex_types.specs.declared.calls.Mode.{Mode}
 use Rattle.apex_types.specs.declared.numbers.PartitionId.{PartitionId}
 use Rattle.apex_types.specs.declared.replies.Reply.{Reply}
@@ -19,6 +20,7 @@ use Rattle.rig_core.specs.declared.source.DeviceFault.{DeviceFault}
 use Rattle.logbook_store.specs.Logs.{AreSettled, sites_of as log_sites_of}
 use Rattle.logbook_store.specs.declared.book.Book.{Book}
 use Rattle.logbook_services.specs.Standing.{IsOfTable, IsServing, Stands}
+use Rattle.logbook_services.specs.Steps.{most_writes}
 use Rattle.logbook_services.proofs.Counts.{books_count_after}
 use Rattle.service_parts.specs.Told.{IsTellable}
 use Rattle.image_layout.specs.Ready.{Stores}
@@ -29,9 +31,18 @@ use Rattle.module_session.specs.declared.session.Session.{Session}
 use Rattle.module_session.proofs.LogChanges.{ChangesLogs, logs_count, logs_files, logs_in_step, logs_moments, logs_runs}
 use Rattle.module_session.proofs.Replies.{reply_of-map}
 
--- a call of one logbook, with more calls than were made
-pub more_calls : (o e : Outside) → MakesAtMost 3 3 0 o e → MakesAtMost 96 3 0 o e
-more_calls o e made = record { writes = omega (arith, made.writes); syncs = made.syncs; tells = made.tells }
+-- a clear makes few writes, and no other call makes any
+few_writes : (c : LogbookCall) → most_writes c ≤ 3
+few_writes (Create name) = omega arith
+few_writes (Write id bytes) = omega arith
+few_writes (Overwrite id bytes) = omega arith
+few_writes (Read id number) = omega arith
+few_writes (Clear id) = omega arith
+few_writes (GetId name) = omega arith
+few_writes (GetStatus id) = omega arith
+
+pub few_calls : (c : LogbookCall) (o e : Outside) → MakesAtMost (most_writes c) (most_writes c) 0 o e → MakesAtMost 96 3 0 o e
+few_calls c o e made = let few = few_writes c in record { writes = omega (arith, made.writes, few); syncs = omega (arith, made.syncs, few); tells = made.tells }
 
 -- with other logbooks and marks
 abbrev with_logs : Session → List Book → List Bool → Session
