@@ -1,5 +1,5 @@
 -- Marks after a restart.
-use Rattle.std.proofs.Common.{◌≡◌, ℕ, Bool, List, length, sym, ◌∙◌, ap, subst}
+use Rattle.std.proofs.Common.{◌≡◌, ℕ, Bool, List, length, ◌∙◌, ap}
 use Rattle.apex_types.specs.Rows.{Rows}
 use Rattle.apex_model.specs.Logbooks.{LogbookSystem}
 use Rattle.model_laws.proofs.Steps.{marks-length}

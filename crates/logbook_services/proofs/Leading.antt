@@ -4,7 +4,7 @@ use Rattle.std.specs.Prelude.{◌==◌, slice_get, slice_index_or}
 use Rattle.apex_types.specs.Rows.{Rows}
 use Rattle.apex_types.specs.declared.codes.ReturnCode.TheVariants.{InvalidParam, InvalidConfig}
 use Rattle.apex_types.specs.declared.rows.LogbookRow.{LogbookRow}
-use Rattle.apex_model.specs.Logbooks.{LogbookSystem, LogbookOutcome, given_or, book_number, book_named, on_book, on_named_book}
+use Rattle.apex_model.specs.Logbooks.{LogbookSystem, LogbookOutcome, given_or, book_number, on_book, on_named_book}
 use Rattle.apex_model.specs.Outcomes.{refuse_with, refuse_if_with}
 use Rattle.apex_model.specs.Tables.{logbooks_of}
 use Rattle.logbook_services.specs.Places.{numbered_in, named_in}

@@ -7,3 +7,4 @@ pub mod Kept
 pub mod Served
 pub mod Services
 pub mod Mounted
+pub mod Counts

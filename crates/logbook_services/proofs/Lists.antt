@@ -1,5 +1,5 @@
 -- Lists that are changed or built from their front on.
-use Rattle.std.proofs.Common.{◌≡◌, ℕ, ◌+◌, ◌<◌, true, List, [], ◌∷◌, ◌++◌, map, take, drop, set, get_or, length, replicate, zero, suc, refl, ap, sym, ◌∙◌, Option, Some, None, arith, add-one}
+use Rattle.std.proofs.Common.{◌≡◌, ℕ, ◌+◌, ◌<◌, true, List, [], ◌∷◌, map, drop, get_or, length, replicate, zero, suc, refl, ap, sym, ◌∙◌, Option, Some, None, add-one}
 use Rattle.std.specs.Prelude.{slice_get, nat_lt}
 use Rattle.std.proofs.lemmas.Option.{slice_get-get_or}
 use Rattle.apex_model.proofs.Keeps.{lt-true}

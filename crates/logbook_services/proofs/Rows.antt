@@ -1,5 +1,5 @@
 -- The logbooks of an accepted table.
-use Rattle.std.proofs.Common.{◌≡◌, ℕ, true, zero, suc, ◌+◌, ◌*◌, ◌<◌, ◌≤◌, List, [], ◌∷◌, Option, Some, None, length, refl, sym, ◌∙◌, ap, subst, arith}
+use Rattle.std.proofs.Common.{◌≡◌, ℕ, true, zero, suc, ◌+◌, ◌*◌, ◌<◌, ◌≤◌, List, [], ◌∷◌, Option, Some, None, length, refl, sym, ◌∙◌, ap, subst}
 use Rattle.std.specs.Prelude.{nat_le, slice_get, IfSome}
 use Rattle.std.specs.List.{list_all}
 use Rattle.std.proofs.lemmas.Option.{slice_get_within}
@@ -12,7 +12,6 @@ use Rattle.apex_model.proofs.Keeps.{le-true}
 use Rattle.logbook_store.specs.Books.{row_of}
 use Rattle.logbook_store.specs.Logs.{Site, site_of, sites_of, sites_from}
 use Rattle.logbook_store.specs.declared.book.Book.{Book}
-use Rattle.logbook_services.specs.Standing.{IsOfTable}
 
 in_range : (table : Rows) → IsAccepted table → is_in_range table ≡ true
 in_range table a = and-right (has_good_names table) _ (and-left _ (has_no_repeats table) (and-left _ (has_known_names table) (and-left _ (fits_volumes table) (and-left _ (fits_image table) a))))

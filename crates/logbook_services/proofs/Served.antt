@@ -1,5 +1,5 @@
 -- When a call is answered, and when it is served on a rig.
-use Rattle.std.proofs.Common.{◌≡◌, ◌⊎◌, inl, inr, ℕ, ◌+◌, ◌*◌, ◌≤◌, Bool, List, length, refl, sym, ◌∙◌, ap, subst, arith}
+use Rattle.std.proofs.Common.{◌≡◌, ◌⊎◌, inl, inr, ℕ, ◌*◌, Bool, List, length, refl, sym, ◌∙◌, ap, subst, arith}
 use Rattle.std.specs.Prelude.{Result, Ok, Err, IfOk, OnOk, OnErr, slice_set, slice_index_or}
 use Rattle.apex_types.specs.Rows.{Rows}
 use Rattle.apex_types.specs.declared.calls.LogbookCall.{LogbookCall}
@@ -19,8 +19,9 @@ use Rattle.rig_core.specs.Leaves.{Leaves, LeavesElsewhere, FromNow, IsAllSettled
 use Rattle.rig_core.specs.Outside.{Outside, Sound, OnlyReads, Later, MakesAtMost}
 use Rattle.rig_core.proofs.Moments.{elsewhere_same, leaves_same, now_none}
 use Rattle.rig_core.proofs.Regions.{settled_all}
-use Rattle.logbook_store.specs.Logs.{Site, AreBeforeOrAfter, AreSettled, AreWithin, StandFor, sites_of, size_of}
+use Rattle.logbook_store.specs.Logs.{Site, AreBeforeOrAfter, AreSettled, AreWithin, ShowsEither, StandFor, sites_of, size_of, with_cleared}
 use Rattle.logbook_store.specs.declared.book.Book.{Book}
+use Rattle.logbook_store.proofs.Beside.{stored_each}
 use Rattle.logbook_store.proofs.Joined.{none_leaves}
 use Rattle.logbook_store.proofs.Zips.{on_ok}
 use Rattle.apex_model.proofs.ValidLogbooks.{logbook_step-valid}
@@ -100,13 +101,13 @@ on_err-right P Q (Ok x) p = tt
 on_err-right P Q (Err x) p = inr p
 
 -- a call that makes no write
-module _ (V K : Type 0) (table : Rows) (step : LogbookSystem → LogbookOutcome) (logs : List Book) (made : List Bool) (new_logs : List Book) (new_made : List Bool) (o e : Outside) (sound : Sound V K o) (later_sound : Sound V K e)
+module _ (V K : Type 0) (most : ℕ) (table : Rows) (step : LogbookSystem → LogbookOutcome) (logs : List Book) (made : List Bool) (new_logs : List Book) (new_made : List Bool) (o e : Outside) (sound : Sound V K o) (later_sound : Sound V K e)
     (reads : OnlyReads V o e) (settled : AreSettled (sites_of logs) o) where
   pub read-served : (result : Result Reply DeviceFault)
       → ((system : LogbookSystem) → V → Stands table logs made o.view system → IfOk result (λ told. told ≡ reply_of (step system)))
       → ((system : LogbookSystem) → V → Stands table logs made o.view system → Stands table new_logs new_made o.view (state_after system (step system)))
       → sites_of new_logs ≡ sites_of logs → length new_made ≡ length made → IfOk result IsTellable → OnErr result (Rose o.read_faults e.read_faults)
-      → IsServed V table step logs made new_logs new_made o e result
+      → IsServed V most table step logs made new_logs new_made o e result
   read-served result reply state sites long tellable cause = record {
     reply = reply;
     state = λ system tells stands.
@@ -115,6 +116,9 @@ module _ (V K : Type 0) (table : Rows) (step : LogbookSystem → LogbookOutcome)
     any_moment = λ system tells stands.
         leaves_same (AreBeforeOrAfter (sites_of logs) system.books (state_after system (step system)).books) o e reads.later.clock reads.told reads.cuts
         (none_leaves V K logs system.books (state_after system (step system)).books o sound tells settled stands.stored).each;
+    shown = λ system tells stands.
+        let P : List ℕ → Type 0 = λ v. AreBeforeOrAfter (sites_of logs) system.books (state_after system (step system)).books v in
+        subst P (sym (reads.view tells)) (λ j site b d is was behind. inl (stored_each logs o.view system.books stands.stored j site b is was));
     outside = λ at n within. leaves_same (FromNow at n o) o e reads.later.clock reads.told reads.cuts (λ image told now. (image, told, now, elsewhere_same at n image));
     outside_view = λ at n within tells. let P : List ℕ → Type 0 = λ v. SameElsewhere at n o.view v in subst P (sym (reads.view tells)) (elsewhere_same at n o.view);
     settled = on_ok-always result (let P : List Site → Type 0 = λ s. AreSettled s e in subst P (sym sites) (settled-read V K (sites_of logs) o e later_sound reads settled));
@@ -127,21 +131,24 @@ module _ (V K : Type 0) (table : Rows) (step : LogbookSystem → LogbookOutcome)
   }
 
 -- a call that needs no device
-pub answered-served : (V K : Type 0) (table : Rows) (step : LogbookSystem → LogbookOutcome) (logs : List Book) (made : List Bool) (new_logs : List Book) (new_made : List Bool) (o : Outside) (told : Reply) → Sound V K o → AreSettled (sites_of logs) o
-    → IsAnswered table step logs made new_logs new_made told → IsServed V table step logs made new_logs new_made o o (Ok told)
-answered-served V K table step logs made new_logs new_made o told sound settled answered =
-    read-served V K table step logs made new_logs new_made o o sound sound (reads-own V o) settled (Ok told)
+pub answered-served : (V K : Type 0) (most : ℕ) (table : Rows) (step : LogbookSystem → LogbookOutcome) (logs : List Book) (made : List Bool) (new_logs : List Book) (new_made : List Bool) (o : Outside) (told : Reply) → Sound V K o → AreSettled (sites_of logs) o
+    → IsAnswered table step logs made new_logs new_made told → IsServed V most table step logs made new_logs new_made o o (Ok told)
+answered-served V K most table step logs made new_logs new_made o told sound settled answered =
+    read-served V K most table step logs made new_logs new_made o o sound sound (reads-own V o) settled (Ok told)
     (λ system tells stands. answered.reply o.view system stands) (λ system tells stands. answered.state o.view system stands) answered.sites answered.long answered.tellable tt
 
 -- the same step in other words
-pub served-as : (V : Type 0) (table : Rows) (step other : LogbookSystem → LogbookOutcome) (logs : List Book) (made : List Bool) (new_logs : List Book) (new_made : List Bool) (o e : Outside) (result : Result Reply DeviceFault)
-    → ((system : LogbookSystem) → step system ≡ other system) → IsServed V table other logs made new_logs new_made o e result → IsServed V table step logs made new_logs new_made o e result
-served-as V table step other logs made new_logs new_made o e result same served = record {
+pub served-as : (V : Type 0) (most : ℕ) (table : Rows) (step other : LogbookSystem → LogbookOutcome) (logs : List Book) (made : List Bool) (new_logs : List Book) (new_made : List Bool) (o e : Outside) (result : Result Reply DeviceFault)
+    → ((system : LogbookSystem) → step system ≡ other system) → IsServed V most table other logs made new_logs new_made o e result → IsServed V most table step logs made new_logs new_made o e result
+served-as V most table step other logs made new_logs new_made o e result same served = record {
   reply = λ system tells stands. let P : LogbookOutcome → Type 0 = λ out. IfOk result (λ told. told ≡ reply_of out) in subst P (sym (same system)) (served.reply system tells stands);
   state = λ system tells stands. let P : LogbookOutcome → Type 0 = λ out. OnOk result (Stands table new_logs new_made e.view (state_after system out)) in subst P (sym (same system)) (served.state system tells stands);
   any_moment = λ system tells stands.
       let P : LogbookOutcome → Type 0 = λ out. Leaves (AreBeforeOrAfter (sites_of logs) system.books (state_after system out).books) o e in
       subst P (sym (same system)) (served.any_moment system tells stands);
+  shown = λ system tells stands.
+      let P : LogbookOutcome → Type 0 = λ out. AreBeforeOrAfter (sites_of logs) system.books (state_after system out).books e.view in
+      subst P (sym (same system)) (served.shown system tells stands);
   outside = served.outside;
   outside_view = served.outside_view;
   settled = served.settled;
@@ -158,12 +165,13 @@ pub clear-served : (V : Type 0) (table : Rows) (step : LogbookSystem → Logbook
     → ((system : LogbookSystem) → made ≡ system.created → step system ≡ accepted (with_book system k (cleared (book_in system k))) Empty)
     → IfOk result (λ told. told ≡ success Empty)
     → ((logbooks : List Logbook) → V → StandFor logs o.view logbooks → Leaves (AreBeforeOrAfter (sites_of logs) logbooks (slice_set logbooks k (cleared (slice_index_or logbooks k empty_book)))) o e)
+    → ShowsEither V logs (with_cleared k) o.view e.view
     → ((at n : ℕ) → AreWithin at n (sites_of logs) → LeavesElsewhere at n o e)
     → ((at n : ℕ) → AreWithin at n (sites_of logs) → V → SameElsewhere at n o.view e.view)
     → ((logbooks : List Logbook) → V → StandFor logs o.view logbooks → OnOk result (StandFor new_logs e.view (slice_set logbooks k (cleared (slice_index_or logbooks k empty_book)))))
     → OnOk result (IsAllSettled e) → sites_of new_logs ≡ sites_of logs → Later o e → MakesAtMost 3 3 0 o e → OnErr result (Rose o.write_faults e.write_faults)
-    → IsServed V table step logs made new_logs made o e result
-clear-served V table step logs made new_logs k o e result is told any_moment outside outside_view stored settled sites later calls cause = record {
+    → IsServed V 3 table step logs made new_logs made o e result
+clear-served V table step logs made new_logs k o e result is told any_moment shown outside outside_view stored settled sites later calls cause = record {
   reply = λ system tells stands. if_ok-map result (success Empty) (reply_of (step system)) (sym (ap reply_of (is system stands.marks))) told;
   state = λ system tells stands.
       let P : LogbookSystem → Type 0 = λ s. Stands table new_logs made e.view s in
@@ -171,6 +179,9 @@ clear-served V table step logs made new_logs k o e result is told any_moment out
   any_moment = λ system tells stands.
       let P : LogbookSystem → Type 0 = λ s. Leaves (AreBeforeOrAfter (sites_of logs) system.books s.books) o e in
       subst P (sym (ap (λ (out : LogbookOutcome). state_after system out) (is system stands.marks))) (any_moment system.books tells stands.stored);
+  shown = λ system tells stands.
+      let P : LogbookSystem → Type 0 = λ s. AreBeforeOrAfter (sites_of logs) system.books s.books e.view in
+      subst P (sym (ap (λ (out : LogbookOutcome). state_after system out) (is system stands.marks))) (shown system.books tells stands.stored);
   outside = outside;
   outside_view = outside_view;
   settled = on_ok result (λ all k site at. settled_all site.1 (size_of site) e all) settled;
@@ -183,10 +194,10 @@ clear-served V table step logs made new_logs k o e result is told any_moment out
 }
 
 -- a call that is served keeps the logbooks valid
-pub served-serving : (V : Type 0) (table : Rows) (p : ℕ) (mode : Mode) (call : LogbookCall) (logs : List Book) (made : List Bool) (new_logs : List Book) (new_made : List Bool) (o e : Outside) (result : Result Reply DeviceFault)
+pub served-serving : (V : Type 0) (most : ℕ) (table : Rows) (p : ℕ) (mode : Mode) (call : LogbookCall) (logs : List Book) (made : List Bool) (new_logs : List Book) (new_made : List Bool) (o e : Outside) (result : Result Reply DeviceFault)
     → IsAccepted table → (V → IsServing table logs made o.view)
-    → IsServed V table (λ system. logbook_step table system p mode call) logs made new_logs new_made o e result → V → OnOk result (IsServing table new_logs new_made e.view)
-served-serving V table p mode call logs made new_logs new_made o e result good valid served tells =
+    → IsServed V most table (λ system. logbook_step table system p mode call) logs made new_logs new_made o e result → V → OnOk result (IsServing table new_logs new_made e.view)
+served-serving V most table p mode call logs made new_logs new_made o e result good valid served tells =
     let was = valid tells in
     on_ok result (λ stands. (
       state_after was.0 (logbook_step table was.0 p mode call),

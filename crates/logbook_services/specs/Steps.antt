@@ -1,6 +1,8 @@
 -- What a call of logbooks comes to.
 use Rattle.std.specs.Prelude.{◌≡◌, ◌⊎◌, ℕ, ◌+◌, ◌<◌, ◌≤◌, Bool, true, false, not, List, Some, Result, IfOk, IfSome, OnOk, OnErr, length, nat_le, slice_get}
 use Rattle.apex_types.specs.Rows.{Rows}
+use Rattle.apex_types.specs.declared.calls.LogbookCall.{LogbookCall}
+use Rattle.apex_types.specs.declared.calls.LogbookCall.TheVariants.{Clear}
 use Rattle.apex_types.specs.declared.codes.ReturnCode.{ReturnCode}
 use Rattle.apex_types.specs.declared.codes.ReturnCode.TheVariants.{InvalidParam, InvalidConfig}
 use Rattle.apex_types.specs.declared.replies.Reply.{Reply}
@@ -60,12 +62,19 @@ pub record IsAnswered (table : Rows) (step : LogbookSystem → LogbookOutcome) (
   pub long : length new_made ≡ length made
   pub tellable : IsTellable told
 
--- A call was served on a rig that went from o to e: it answers as the step does, and the logbooks and marks stand for the
--- state after it; at every moment a cut leaves each logbook as before or as after.
-pub record IsServed (V : Type 0) (table : Rows) (step : LogbookSystem → LogbookOutcome) (logs : List Book) (made : List Bool) (new_logs : List Book) (new_made : List Bool) (o e : Outside) (result : Result Reply DeviceFault) : Type 0 where
+-- A clear makes so many writes at most, and as many syncs. No other call makes any.
+abbrev pub most_writes : LogbookCall → ℕ
+most_writes (Clear id) = 3
+most_writes _ = 0
+
+-- A call was served on a rig that went from o to e with so many writes at most, and as many syncs: it answers as the step
+-- does, and the logbooks and marks stand for the state after it; at every moment a cut leaves each logbook as before or as
+-- after, and so do reads behind the call show it.
+pub record IsServed (V : Type 0) (most : ℕ) (table : Rows) (step : LogbookSystem → LogbookOutcome) (logs : List Book) (made : List Bool) (new_logs : List Book) (new_made : List Bool) (o e : Outside) (result : Result Reply DeviceFault) : Type 0 where
   pub reply : (system : LogbookSystem) → V → Stands table logs made o.view system → IfOk result (λ told. told ≡ reply_of (step system))
   pub state : (system : LogbookSystem) → V → Stands table logs made o.view system → OnOk result (Stands table new_logs new_made e.view (state_after system (step system)))
   pub any_moment : (system : LogbookSystem) → V → Stands table logs made o.view system → Leaves (AreBeforeOrAfter (sites_of logs) system.books (state_after system (step system)).books) o e
+  pub shown : (system : LogbookSystem) → V → Stands table logs made o.view system → AreBeforeOrAfter (sites_of logs) system.books (state_after system (step system)).books e.view
   pub outside : (at n : ℕ) → AreWithin at n (sites_of logs) → LeavesElsewhere at n o e
   pub outside_view : (at n : ℕ) → AreWithin at n (sites_of logs) → V → SameElsewhere at n o.view e.view
   pub settled : OnOk result (AreSettled (sites_of new_logs) e)
@@ -73,5 +82,5 @@ pub record IsServed (V : Type 0) (table : Rows) (step : LogbookSystem → Logboo
   pub long : length new_made ≡ length made
   pub tellable : IfOk result IsTellable
   pub later : Later o e
-  pub made_calls : MakesAtMost 3 3 0 o e
+  pub made_calls : MakesAtMost most most 0 o e
   pub cause : OnErr result (Rose o.read_faults e.read_faults ⊎ Rose o.write_faults e.write_faults)

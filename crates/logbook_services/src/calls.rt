@@ -12,7 +12,7 @@ ghost use Rattle.logbook_store.specs.Logs.{AreBeforeOrAfter, AreLaidOut, AreSett
 ghost use Rattle.logbook_store.specs.declared.book.Book.{Book};
 ghost use Rattle.service_parts.specs.Told.{IsTellable};
 ghost use Rattle.logbook_services.specs.Standing.{Stands, IsOfTable, IsServing};
-ghost use Rattle.logbook_services.specs.Steps.{IsAnswered, IsServed, Takes, TakesNone};
+ghost use Rattle.logbook_services.specs.Steps.{IsAnswered, IsServed, Takes, TakesNone, most_writes};
 
 use crate::finding::{named, on_book};
 use crate::made::MadeMarks;
@@ -140,7 +140,7 @@ fn read_logbook<R: Rig>(
     requires of_table { IsOfTable table.now logs.now made.now }
     requires laid_out { AreLaidOut (sites_of logs.now) (R.state rig.old).size }
     requires settled { AreSettled (sites_of logs.now) (R.state rig.old) }
-    ensures { IsServed R.tells_view table.now (λ system. logbooks.read_logbook table.now system p.0 id number) logs.now made.now logs.now made.now (R.state rig.old) (R.state rig.new) result }
+    ensures { IsServed R.tells_view 0 table.now (λ system. logbooks.read_logbook table.now system p.0 id number) logs.now made.now logs.now made.now (R.state rig.old) (R.state rig.new) result }
 {
     let Some((k, _row)) = on_book(table, made, p, id) else {
         return Ok(refused(ReturnCode::InvalidParam));
@@ -172,7 +172,7 @@ fn clear_logbook<R: Rig>(
     requires laid_out { AreLaidOut (sites_of logs.old) (R.state rig.old).size }
     requires settled { AreSettled (sites_of logs.old) (R.state rig.old) }
     requires stand { R.tells_view → (system : LogbookSystem) × Stands table.now logs.old made.now (R.state rig.old).view system }
-    ensures { IsServed R.tells_view table.now (λ system. logbooks.clear_logbook table.now system p.0 id) logs.old made.now logs.new made.now (R.state rig.old) (R.state rig.new) result }
+    ensures { IsServed R.tells_view 3 table.now (λ system. logbooks.clear_logbook table.now system p.0 id) logs.old made.now logs.new made.now (R.state rig.old) (R.state rig.new) result }
 {
     let Some((k, _row)) = on_book(table, made, p, id) else {
         return Ok(refused(ReturnCode::InvalidParam));
@@ -238,7 +238,7 @@ fn serve<R: Rig>(
     requires laid_out { AreLaidOut (sites_of logs.old) (R.state rig.old).size }
     requires settled { AreSettled (sites_of logs.old) (R.state rig.old) }
     requires stand { R.tells_view → (system : LogbookSystem) × Stands table.now logs.old made.old (R.state rig.old).view system }
-    ensures { IsServed R.tells_view table.now (λ system. logbook_service table.now system p.0 mode call.now) logs.old made.old logs.new made.new (R.state rig.old) (R.state rig.new) result }
+    ensures { IsServed R.tells_view (most_writes call.now) table.now (λ system. logbook_service table.now system p.0 mode call.now) logs.old made.old logs.new made.new (R.state rig.old) (R.state rig.new) result }
 {
     match call {
         LogbookCall::Create { name } => Ok(create_logbook(table, made, p, mode, name.bytes())),
@@ -272,7 +272,7 @@ fn step<R: Rig>(
     requires laid_out { AreLaidOut (sites_of logs.old) (R.state rig.old).size }
     requires settled { AreSettled (sites_of logs.old) (R.state rig.old) }
     requires stand { R.tells_view → (system : LogbookSystem) × Stands table.now logs.old made.old (R.state rig.old).view system }
-    ensures { IsServed R.tells_view table.now (λ system. logbook_step table.now system p.0 mode call.now) logs.old made.old logs.new made.new (R.state rig.old) (R.state rig.new) result }
+    ensures { IsServed R.tells_view (most_writes call.now) table.now (λ system. logbook_step table.now system p.0 mode call.now) logs.old made.old logs.new made.new (R.state rig.old) (R.state rig.new) result }
 {
     if is_idle(mode) {
         return Ok(refused(ReturnCode::InvalidMode));
@@ -283,9 +283,10 @@ fn step<R: Rig>(
 /// Carries out a logbook call of a partition in a mode, or refuses it. In IDLE every call is refused with INVALID_MODE. A
 /// refusal changes nothing, and has a return code and no errno. The names of the calls and the return codes are the
 /// public standard's; ids by number, the values and the order of refusals are this project's own. At every moment a cut
-/// leaves each logbook as before or as after the call, and nothing changes outside the regions of the logbooks. A clear
-/// makes at most 3 writes and 3 syncs, and no other call makes any. A fault comes only where the rig's read or write
-/// faults rose; the logbooks are of no use for more calls then. No memory is taken.
+/// leaves each logbook as before or as after the call, and reads behind the call show each so, also at a fault. Nothing
+/// changes outside the regions of the logbooks. A clear makes at most 3 writes and 3 syncs, and no other call makes any.
+/// A fault comes only where the rig's read or write faults rose; the logbooks are of no use for more calls then. No memory
+/// is taken.
 pub fn logbook_call<R: Rig>(
     table: &Table,
     logs: &mut Logs,
@@ -308,12 +309,18 @@ pub fn logbook_call<R: Rig>(
     ensures valid { R.tells_view → OnOk result (IsServing table.now logs.new made.new (R.state rig.new).view) }
     ensures any_moment { (system : LogbookSystem) → R.tells_view → Stands table.now logs.old made.old (R.state rig.old).view system
         → Leaves (AreBeforeOrAfter (sites_of logs.old) system.books (state_after system (logbook_step table.now system p.0 mode call.now)).books) (R.state rig.old) (R.state rig.new) }
+    ensures shown { (system : LogbookSystem) → R.tells_view
+        → Stands table.now logs.old made.old (R.state rig.old).view system
+        → AreBeforeOrAfter (sites_of logs.old) system.books
+        (state_after system (logbook_step table.now system p.0 mode call.now)).books
+        (R.state rig.new).view }
     ensures outside { (at n : ℕ) → AreWithin at n (sites_of logs.old) → LeavesElsewhere at n (R.state rig.old) (R.state rig.new) }
     ensures outside_view { (at n : ℕ) → AreWithin at n (sites_of logs.old) → R.tells_view → SameElsewhere at n (R.state rig.old).view (R.state rig.new).view }
     ensures settled { OnOk result (AreSettled (sites_of logs.new) (R.state rig.new)) }
     ensures tellable { IfOk result IsTellable }
     ensures later { Later (R.state rig.old) (R.state rig.new) }
-    ensures made { MakesAtMost 3 3 0 (R.state rig.old) (R.state rig.new) }
+    ensures made { MakesAtMost (most_writes call.now) (most_writes call.now) 0
+        (R.state rig.old) (R.state rig.new) }
     ensures cause { OnErr result (Rose (R.state rig.old).read_faults (R.state rig.new).read_faults ⊎ Rose (R.state rig.old).write_faults (R.state rig.new).write_faults) }
 {
     step(table, logs, made, rig, p, mode, call)

@@ -1,11 +1,13 @@
-mod Called
-mod Counts
-pub mod Offers
-pub mod Ready
-mod Starting
-mod Ticked
-mod Worlds
-mod Still
-mod Sampled
-mod Restarted
 mod Entered
+mod Filed
+mod LogChanges
+mod Logged
+pub mod Ready
+mod Replies
+mod Restarted
+mod Sampled
+mod Starting
+mod Still
+mod Taken
+mod Ticked
+mod TreeCounts

@@ -17,11 +17,8 @@ use Rattle.module_session.specs.Calls.{IsCallTaken}
 use Rattle.module_session.specs.Partitions.{partition_at}
 use Rattle.module_session.specs.Sessions.{IsReady, StandsFor}
 use Rattle.module_session.specs.declared.session.Session.{Session}
+use Rattle.module_session.proofs.Replies.{reply_of-map}
 use Rattle.module_session.proofs.Still.{IsStill, still_taken}
-
-pub reply_of-map : {S T : Type 0} (whole : S → T) (outcome : Outcome S) → reply_of (map_state whole outcome) ≡ reply_of outcome
-reply_of-map whole (refused reply) = refl
-reply_of-map whole (accepted state values) = refl
 
 -- a session with other ports
 abbrev pub with_other_ports : Session → PortsValue → Session

@@ -35,12 +35,12 @@ IsEarly number session = session.time + 100000 ≤ 100000 * number
 -- Its parts stand for those of the world: trees with handles, logbooks, ports, and the modes and
 -- contexts of the partitions. Of logbooks it holds where the rig tells its view.
 pub record StandsFor (tells_view : Type 0) (o : Outside) (session : Session) (w : World) : Type 0
-    where
-  pub parts : StandForWorld tells_view o session.trees session.handles session.logs w
-  pub created : tells_view → session.made ≡ w.logbooks.created
-  pub ports : ports.Stands session.table session.ports w.ports
-  pub partitions : session.partitions ≡ w.partitions
-  pub time : session.time ≡ w.time
+  where
+    pub parts : StandForWorld tells_view o session.trees session.handles session.logs w
+    pub created : tells_view → session.made ≡ w.logbooks.created
+    pub ports : ports.Stands session.table session.ports w.ports
+    pub partitions : session.partitions ≡ w.partitions
+    pub time : session.time ≡ w.time
 
 -- The session can carry out a line: it hasn't failed, it is in step with the device, and its parts
 -- are those of the table and stand for valid ones.

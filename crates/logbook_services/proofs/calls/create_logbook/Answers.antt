@@ -1,4 +1,4 @@
-use Rattle.std.proofs.Common.{◌≡◌, ◌+◌, Bool, List, true, false, length, refl, sym, ◌∙◌, ap}
+use Rattle.std.proofs.Common.{◌+◌, Bool, List, true, false, length, refl, sym, ◌∙◌, ap}
 use Rattle.std.specs.Prelude.{slice_set, slice_index_or}
 use Rattle.std.proofs.lemmas.List.{length-set}
 use Rattle.apex_types.specs.declared.codes.ReturnCode.TheVariants.{InvalidMode, InvalidConfig, NoAction}

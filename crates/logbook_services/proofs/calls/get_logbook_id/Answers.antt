@@ -1,4 +1,4 @@
-use Rattle.std.proofs.Common.{◌+◌, Bool, List, true, false, refl, sym, ◌∙◌, ap}
+use Rattle.std.proofs.Common.{◌+◌, Bool, List, false, refl, sym, ◌∙◌, ap}
 use Rattle.std.specs.Prelude.{slice_index_or}
 use Rattle.apex_types.specs.declared.codes.ReturnCode.TheVariants.{InvalidConfig}
 use Rattle.apex_types.specs.declared.replies.Values.TheVariants.{Number}

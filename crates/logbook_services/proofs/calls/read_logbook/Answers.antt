@@ -14,7 +14,7 @@ use Rattle.logbook_services.proofs.calls.read_logbook.Goals as goal
 
 pub returns-in_default : goal.returns-in_default
 returns-in_default g c =
-    answered-served g.R.Rig.tells_view g.R.Rig.keeps_cuts c.args.table.now _ c.args.logs.now c.args.made.now c.args.logs.now c.args.made.now (g.R.Rig.state c.args.rig.now) c.refused.result
+    answered-served g.R.Rig.tells_view g.R.Rig.keeps_cuts 0 c.args.table.now _ c.args.logs.now c.args.made.now c.args.logs.now c.args.made.now (g.R.Rig.state c.args.rig.now) c.refused.result
     (g.met.R.Rig.sound c.args.rig.now) c.requires.settled
     (refused-answered c.args.table.now _ c.args.logs.now c.args.made.now c.refused.result InvalidParam
     (λ image system stands. read-none c.args.table.now c.args.made.now c.args.p.0 c.args.id system stands.marks c.args.number c.in_default.ensures.none) c.refused.ensures)
@@ -22,7 +22,7 @@ returns-in_default g c =
 pub returns-then-number-eq0 : goal.returns-then-number-eq0
 returns-then-number-eq0 g c =
     let none : (c.args.number == 0) ≡ true = grind (arith, nat_tests) in
-    answered-served g.R.Rig.tells_view g.R.Rig.keeps_cuts c.args.table.now _ c.args.logs.now c.args.made.now c.args.logs.now c.args.made.now (g.R.Rig.state c.args.rig.now) c.refused-then-number-eq0.result
+    answered-served g.R.Rig.tells_view g.R.Rig.keeps_cuts 0 c.args.table.now _ c.args.logs.now c.args.made.now c.args.logs.now c.args.made.now (g.R.Rig.state c.args.rig.now) c.refused-then-number-eq0.result
     (g.met.R.Rig.sound c.args.rig.now) c.requires.settled
     (refused-answered c.args.table.now _ c.args.logs.now c.args.made.now c.refused-then-number-eq0.result InvalidParam
     (λ image system stands. read-zero c.args.table.now c.args.made.now c.args.p.0 c.args.id system stands.marks c.in-Some.k c.in-Some._row.now c.in-Some.ensures.some c.args.number none) c.refused-then-number-eq0.ensures)
@@ -34,7 +34,7 @@ pub returns-then-from : goal.returns-then-from
 returns-then-from g c =
     let some : (c.args.number == 0) ≡ false = grind (arith, nat_tests) in
     let past : c.counts-counts.result.progress + c.counts-counts.result.logged < c.args.number = grind (arith, common_steps) in
-    answered-served g.R.Rig.tells_view g.R.Rig.keeps_cuts c.args.table.now _ c.args.logs.now c.args.made.now c.args.logs.now c.args.made.now (g.R.Rig.state c.args.rig.now) c.refused-then-from.result
+    answered-served g.R.Rig.tells_view g.R.Rig.keeps_cuts 0 c.args.table.now _ c.args.logs.now c.args.made.now c.args.logs.now c.args.made.now (g.R.Rig.state c.args.rig.now) c.refused-then-from.result
     (g.met.R.Rig.sound c.args.rig.now) c.requires.settled
     (refused-answered c.args.table.now _ c.args.logs.now c.args.made.now c.refused-then-from.result NotAvailable
     (λ image system stands. read-past c.args.table.now c.args.made.now c.args.p.0 c.args.id system stands.marks c.in-Some.k c.in-Some._row.now c.in-Some.ensures.some c.args.number c.counts-counts.result
@@ -48,7 +48,7 @@ returns-in-Err g c =
     let some : (c.args.number == 0) ≡ false = grind (arith, nat_tests) in
     let o = g.R.Rig.state c.args.rig.now in
     let P : LogbookSystem → Type 0 = λ s. Stands c.args.table.now c.args.logs.now c.args.made.now o.view s in
-    read-served g.R.Rig.tells_view g.R.Rig.keeps_cuts c.args.table.now _ c.args.logs.now c.args.made.now c.args.logs.now c.args.made.now o (g.R.Rig.state c.entry.new.rig)
+    read-served g.R.Rig.tells_view g.R.Rig.keeps_cuts 0 c.args.table.now _ c.args.logs.now c.args.made.now c.args.logs.now c.args.made.now o (g.R.Rig.state c.entry.new.rig)
     (g.met.R.Rig.sound c.args.rig.now) (g.met.R.Rig.sound c.entry.new.rig) c.entry.ensures.reads c.requires.settled (Err c.in-Err.fault)
     (λ system tells stands. tt)
     (λ system tells stands. subst P (sym (read-same c.args.table.now c.args.made.now c.args.p.0 c.args.id system stands.marks c.in-Some.k c.in-Some._row.now c.in-Some.ensures.some c.args.number some)) stands)
@@ -59,7 +59,7 @@ returns-in-Ok g c =
     let some : (c.args.number == 0) ≡ false = grind (arith, nat_tests) in
     let o = g.R.Rig.state c.args.rig.now in
     let P : LogbookSystem → Type 0 = λ s. Stands c.args.table.now c.args.logs.now c.args.made.now o.view s in
-    read-served g.R.Rig.tells_view g.R.Rig.keeps_cuts c.args.table.now _ c.args.logs.now c.args.made.now c.args.logs.now c.args.made.now o (g.R.Rig.state c.entry.new.rig)
+    read-served g.R.Rig.tells_view g.R.Rig.keeps_cuts 0 c.args.table.now _ c.args.logs.now c.args.made.now c.args.logs.now c.args.made.now o (g.R.Rig.state c.entry.new.rig)
     (g.met.R.Rig.sound c.args.rig.now) (g.met.R.Rig.sound c.entry.new.rig) c.entry.ensures.reads c.requires.settled (Ok c.success.result)
     (λ system tells stands.
     c.success.ensures ∙ sym (ap (λ (out : LogbookOutcome). reply_of out) (read-entry c.args.table.now c.args.made.now c.args.p.0 c.args.id system stands.marks c.in-Some.k c.in-Some._row.now c.in-Some.ensures.some c.args.number
