@@ -1,7 +1,13 @@
-mod Called
-mod Counts
-pub mod Offers
+mod Entered
+mod Filed
+mod LogChanges
+mod Logged
 pub mod Ready
+mod Replies
+mod Restarted
+mod Sampled
 mod Starting
+mod Still
+mod Taken
 mod Ticked
-mod Worlds
+mod TreeCounts

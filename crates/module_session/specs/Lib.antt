@@ -1,2 +1,4 @@
+pub mod Calls
+pub mod Partitions
 pub mod Sessions
 pub mod Steps

@@ -1,6 +1,8 @@
-//! The services' state while a script is carried out: stored trees with their handles, and logbooks, over one device.
+//! The services' state while a script is carried out: stored trees with their handles, logbooks, sampling ports and the
+//! partitions' modes, over one device.
 #![tactic(auto)]
 
+mod partitions;
 mod session;
 
 pub use session::Session;

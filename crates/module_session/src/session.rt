@@ -1,6 +1,7 @@
 // A run of the services over what is stored on a device.
-ghost use Rattle.std.specs.Prelude.{◌≡◌, ◌⊎◌, ◌*◌, is_err, Ok, IfOk, OnOk, OnErr};
+ghost use Rattle.std.specs.Prelude.{◌≡◌, ◌⊎◌, ◌<◌, ◌+◌, ◌*◌, length, is_err, Ok, IfOk, OnOk, OnErr};
 ghost use Rattle.std.specs.Option.{ForSome};
+ghost use Rattle.apex_types.specs.declared.calls.Call.TheVariants as calls;
 ghost use Rattle.apex_model.specs.Accepted.{IsAccepted};
 ghost use Rattle.apex_model.specs.Durable.{Durable, IsCutDuring, start};
 ghost use Rattle.apex_model.specs.Image.{state_of};
@@ -11,16 +12,22 @@ ghost use Rattle.rig_core.specs.Causes.{Rose};
 ghost use Rattle.rig_core.specs.Runs.{Runs, Shows};
 ghost use Rattle.image_layout.specs.Ready.{Stores};
 ghost use Rattle.image_mount.specs.Mounted.{IsMounted};
-ghost use Rattle.tree_store.specs.Serving.{AreOfTable, AreServing};
 ghost use Rattle.service_parts.specs.Told.{IsTellable};
 
-use apex_types::{Call, Deed, Line, OutOfMemory, PartitionId, Reply, Table};
+use crate::partitions::Partitions;
+use apex_types::{
+    Call, Context, Deed, DirCall, FileCall, Line, LogbookCall, Mode, OutOfMemory, PartitionId,
+    Reply, ReturnCode, SamplingCall, Table, Values,
+};
 use dir_services::dir_call;
 use file_services::file_call;
 use image_mount::Store;
+use logbook_services::{MadeMarks, logbook_call};
 use logbook_store::Logs;
 use open_handles::Handles;
 use rig_core::{DeviceFault, Rig};
+use sampling_ext::{Ports, sampling_call};
+use service_parts::{is_normal, refused, success};
 use std::alloc::Global;
 use tree_store::Trees;
 
@@ -32,15 +39,21 @@ pub struct Session {
     trees: Trees,
     handles: Handles,
     logs: Logs,
+    made: MadeMarks,
+    ports: Ports,
+    partitions: Partitions,
+    time: u32,
     failed: bool,
 }
 
 impl Session {
-    ghost use Rattle.module_session.specs.Sessions.{table_of_session, has_failed, IsCarriedOut, IsOffered, IsReady, IsTick, StandsFor};
-    ghost use Rattle.module_session.specs.Steps.{IsBesideTrees, IsServedIn, IsTaken};
+    ghost use Rattle.module_session.specs.Calls.{IsCallTaken, IsRestarted};
+    ghost use Rattle.module_session.specs.Sessions.{table_of_session, has_failed, IsCarriedOut, IsEarly, IsOfLogbooks, IsReady, StandsFor};
+    ghost use Rattle.module_session.specs.Steps.{IsTaken};
 
-    /// The state of a module of this table after power on, with what was mounted from a device. It takes all memory
-    /// that handles need. The rig is named by the contract alone.
+    /// The state of a module of this table after power on, with what was mounted from a device: no handle is open, no
+    /// logbook or port is created, no channel holds a message, and each partition is in COLD_START. It takes all memory
+    /// that the session needs. The rig is named by the contract alone.
     pub fn start<R: Rig>(
         alloc: Global,
         table: Table,
@@ -50,18 +63,27 @@ impl Session {
         requires accepted { IsAccepted table }
         requires mounted { IsMounted R.tells_view (R.state rig.now) table store }
         ensures table { IfOk result (λ session. table_of_session session ≡ table) }
+        ensures early { IfOk result (IsEarly 1) }
         ensures ready { IfOk result (IsReady R.tells_view (R.state rig.now)) }
         ensures world { R.tells_view → (stored : Durable)
             → state_of table (R.state rig.now).view ≡ Ok stored
             → IfOk result (λ session. StandsFor R.tells_view (R.state rig.now) session (start table stored)) }
     {
-        let handles = Handles::new(alloc, table.partitions().len() as u32)?;
+        let partitions = table.partitions().len();
+        let handles = Handles::new(alloc, partitions as u32)?;
+        let made = MadeMarks::new(alloc, &table)?;
+        let ports = Ports::new(alloc, &table)?;
+        let partitions = Partitions::started(alloc, partitions)?;
         let Store { trees, logs } = store;
         Ok(Session {
             table,
             trees,
             handles,
             logs,
+            made,
+            ports,
+            partitions,
+            time: 0,
             failed: false,
         })
     }
@@ -73,7 +95,134 @@ impl Session {
         self.failed
     }
 
-    /// Carries out a call of files or directories. A fault comes only where the rig's write faults rose.
+    /// Carries out a call of files, in a partition that is ready for one or not.
+    fn file<R: Rig>(
+        &mut self,
+        p: PartitionId,
+        call: &FileCall,
+        rig: &mut R,
+    ) -> Result<Reply, DeviceFault>
+        requires ready { IsReady R.tells_view (R.state rig.old) self.old }
+        requires partition { p.0 < length (table_of_session self.old).partitions }
+        ensures { IsCallTaken R.tells_view p (calls.File call.now) self.old self.new
+            (R.state rig.old) (R.state rig.new) result }
+    {
+        let ready = self.partitions.is_ready(p);
+        let Session {
+            table,
+            trees,
+            handles,
+            ..
+        } = self;
+        file_call(table, trees, handles, rig, p, ready, call)
+    }
+
+    /// Carries out a call of directories, in a partition that is ready for one or not.
+    fn directory<R: Rig>(
+        &mut self,
+        p: PartitionId,
+        call: &DirCall,
+        rig: &mut R,
+    ) -> Result<Reply, DeviceFault>
+        requires ready { IsReady R.tells_view (R.state rig.old) self.old }
+        requires partition { p.0 < length (table_of_session self.old).partitions }
+        ensures { IsCallTaken R.tells_view p (calls.Directory call.now) self.old self.new
+            (R.state rig.old) (R.state rig.new) result }
+    {
+        let ready = self.partitions.is_ready(p);
+        let Session {
+            table,
+            trees,
+            handles,
+            ..
+        } = self;
+        dir_call(table, trees, handles, rig, p, ready, call)
+    }
+
+    /// Carries out a call of logbooks, in the partition's mode.
+    fn logbook<R: Rig>(
+        &mut self,
+        p: PartitionId,
+        call: &LogbookCall,
+        rig: &mut R,
+    ) -> Result<Reply, DeviceFault>
+        requires ready { IsReady R.tells_view (R.state rig.old) self.old }
+        requires partition { p.0 < length (table_of_session self.old).partitions }
+        ensures { IsCallTaken R.tells_view p (calls.Logbook call.now) self.old self.new
+            (R.state rig.old) (R.state rig.new) result }
+    {
+        let mode = self.partitions.mode(p);
+        logbook_call(
+            &self.table,
+            &mut self.logs,
+            &mut self.made,
+            rig,
+            p,
+            mode,
+            call,
+        )
+    }
+
+    /// Carries out a call of sampling ports, in the partition's mode and at the module's time.
+    fn sampling<R: Rig>(&mut self, p: PartitionId, call: &SamplingCall, rig: &R) -> Reply
+        requires ready { IsReady R.tells_view (R.state rig.now) self.old }
+        requires partition { p.0 < length (table_of_session self.old).partitions }
+        ensures { IsCallTaken R.tells_view p (calls.Sampling call.now) self.old self.new
+            (R.state rig.now) (R.state rig.now) (Ok result) }
+    {
+        let mode = self.partitions.mode(p);
+        sampling_call(&self.table, &mut self.ports, self.time, p, mode, call)
+    }
+
+    /// A partition starts again in a mode: its handles are closed, what it created is forgotten, and its calls come from
+    /// ordinary processes. What is stored, all messages and the other partitions stay as they are.
+    fn restart<R: Rig>(&mut self, p: PartitionId, mode: Mode, rig: &R)
+        requires ready { IsReady R.tells_view (R.state rig.now) self.old }
+        requires partition { p.0 < length (table_of_session self.old).partitions }
+        ensures { IsRestarted R.tells_view p.0 mode self.old self.new (R.state rig.now) }
+    {
+        self.handles.close_all(p);
+        self.made.restart(&self.table, p);
+        self.ports.restart(p);
+        self.partitions.set(p, mode, Context::Ordinary);
+    }
+
+    /// MODE: NORMAL is entered from COLD_START and WARM_START alone; each other mode is a restart.
+    fn set_mode<R: Rig>(&mut self, p: PartitionId, mode: Mode, rig: &R) -> Reply
+        requires ready { IsReady R.tells_view (R.state rig.now) self.old }
+        requires partition { p.0 < length (table_of_session self.old).partitions }
+        ensures { IsCallTaken R.tells_view p (calls.SetMode mode) self.old self.new
+            (R.state rig.now) (R.state rig.now) (Ok result) }
+    {
+        if !is_normal(mode) {
+            self.restart(p, mode, rig);
+            return success(Values::Empty);
+        }
+        match self.partitions.mode(p) {
+            Mode::Normal => refused(ReturnCode::NoAction),
+            Mode::Idle => refused(ReturnCode::InvalidMode),
+            Mode::ColdStart | Mode::WarmStart => {
+                let context = self.partitions.context(p);
+                self.partitions.set(p, Mode::Normal, context);
+                success(Values::Empty)
+            }
+        }
+    }
+
+    /// CONTEXT: where a partition's next calls come from.
+    fn set_context<R: Rig>(&mut self, p: PartitionId, context: Context, rig: &R) -> Reply
+        requires ready { IsReady R.tells_view (R.state rig.now) self.old }
+        requires partition { p.0 < length (table_of_session self.old).partitions }
+        ensures { IsCallTaken R.tells_view p (calls.SetContext context) self.old self.new
+            (R.state rig.now) (R.state rig.now) (Ok result) }
+    {
+        let mode = self.partitions.mode(p);
+        self.partitions.set(p, mode, context);
+        success(Values::Empty)
+    }
+
+    /// Carries out a call or a directive of a partition. A fault comes only where the rig's write faults rose, or in a
+    /// call of logbooks its read faults.
     fn call<R: Rig>(
         &mut self,
         p: PartitionId,
@@ -81,24 +230,17 @@ impl Session {
         rig: &mut R,
     ) -> Result<Reply, DeviceFault>
         requires ready { IsReady R.tells_view (R.state rig.old) self.old }
-        requires of_table { IsDeedOf (table_of_session self.old) (Deed.Partition p call.now) }
-        requires offered { IsOffered (Deed.Partition p call.now) }
-        ensures served { IsServedIn R.tells_view self.old self.new p.0 call.now (R.state rig.old) (R.state rig.new) result }
-        ensures serving { OnOk result (AreServing R.tells_view (R.state rig.new) (table_of_session self.old)
-            self.new.trees self.new.handles) }
-        ensures of_table { AreOfTable (table_of_session self.old) self.new.trees self.new.handles }
-        ensures rest { IsBesideTrees self.old self.new }
+        requires partition { p.0 < length (table_of_session self.old).partitions }
+        ensures { IsCallTaken R.tells_view p call.now self.old self.new
+            (R.state rig.old) (R.state rig.new) result }
     {
-        let Session {
-            table,
-            trees,
-            handles,
-            ..
-        } = self;
         match call {
-            Call::File(call) => file_call(table, trees, handles, rig, p, true, call),
-            Call::Directory(call) => dir_call(table, trees, handles, rig, p, true, call),
-            _ => unreachable!(),
+            Call::File(call) => self.file(p, call, rig),
+            Call::Directory(call) => self.directory(p, call, rig),
+            Call::Logbook(call) => self.logbook(p, call, rig),
+            Call::Sampling(call) => Ok(self.sampling(p, call, rig)),
+            Call::SetMode(mode) => Ok(self.set_mode(p, *mode, rig)),
+            Call::SetContext(context) => Ok(self.set_context(p, *context, rig)),
         }
     }
 
@@ -106,12 +248,14 @@ impl Session {
     fn take<R: Rig>(&mut self, line: &Line, rig: &mut R) -> Result<Option<Reply>, DeviceFault>
         requires ready { IsReady R.tells_view (R.state rig.old) self.old }
         requires of_table { IsLineOf (table_of_session self.old) line.now }
-        requires offered { IsOffered line.now.deed }
-        ensures { IsTaken R.tells_view line.now self.old self.new (R.state rig.old) (R.state rig.new) result }
+        requires early { IsEarly line.now.number self.old }
+        ensures { IsTaken R.tells_view line.now self.old self.new
+            (R.state rig.old) (R.state rig.new) result }
     {
         match &line.deed {
-            Deed::Tick(_) => {
+            Deed::Tick(ticks) => {
                 self.logs.move_all(rig)?;
+                self.time += *ticks;
                 Ok(None)
             }
             Deed::Partition { p, call } => {
@@ -121,16 +265,18 @@ impl Session {
         }
     }
 
-    /// Carries out a line: a call gives its reply, a tick none. Where the read that a call needs fails, the reply tells
-    /// so, and the world is as it was. After a fault the session has failed; it comes only where the rig's write faults
-    /// rose, or in a tick its read faults. At every moment a cut leaves each tree and each logbook as before the line
-    /// or as after it, each by itself, and nothing changes behind the table's layout.
+    /// Carries out a line: a call gives its reply, a tick none. Where the read that a call of files needs fails, the
+    /// reply tells so, and the world is as it was. After a fault the session has failed; it comes only where the rig's
+    /// write faults rose, or in a tick or a call of logbooks its read faults. At every moment a cut leaves each tree and
+    /// each logbook as before the line or as after it, each by itself, and nothing changes behind the table's layout.
+    /// A line that is early is still so for the next: the time, in ticks, stays below 2 ^ 32.
     pub fn step<R: Rig>(&mut self, line: &Line, rig: &mut R) -> Result<Option<Reply>, DeviceFault>
         requires ready { IsReady R.tells_view (R.state rig.old) self.old }
         requires of_table { IsLineOf (table_of_session self.old) line.now }
-        requires offered { IsOffered line.now.deed }
+        requires early { IsEarly line.now.number self.old }
         ensures table { table_of_session self.new ≡ table_of_session self.old }
         ensures failed { has_failed self.new ≡ is_err result }
+        ensures early { OnOk result (IsEarly (line.now.number + 1) self.new) }
         ensures ready { OnOk result (IsReady R.tells_view (R.state rig.new) self.new) }
         ensures carried_out { IfOk result (IsCarriedOut R.tells_view
             (Rose (R.state rig.old).read_faults (R.state rig.new).read_faults) (table_of_session self.old) line.now
@@ -141,7 +287,7 @@ impl Session {
         ensures runs { Runs R.tells_view 0 (512 * layout_blocks (table_of_session self.old)) 96 3
             (R.state rig.old) (R.state rig.new) }
         ensures cause { OnErr result (Rose (R.state rig.old).write_faults (R.state rig.new).write_faults
-            ⊎ (IsTick line.now.deed × Rose (R.state rig.old).read_faults (R.state rig.new).read_faults)) }
+            ⊎ (IsOfLogbooks line.now.deed × Rose (R.state rig.old).read_faults (R.state rig.new).read_faults)) }
         ensures tellable { IfOk result (λ reply. ForSome reply IsTellable) }
     {
         match self.take(line, rig) {

@@ -1,42 +1,29 @@
-use Rattle.std.proofs.Common.{List, map, sym, subst}
+use Rattle.std.proofs.Common.{sym, subst}
+use Rattle.std.specs.Prelude.{Ok}
 use Rattle.apex_types.specs.declared.calls.Call.{Call}
-use Rattle.apex_model.specs.FailedReads.{reads_file}
-use Rattle.rig_core.specs.Windows.{AreLaidOut}
-use Rattle.store_model.specs.Betweens.{TreeSite}
-use Rattle.tree_store.specs.Serving.{window_of}
-use Rattle.service_parts.specs.Serving.{IsServed, ReadsFailed}
-use Rattle.image_layout.proofs.Following.{trees_laid_out}
-use Rattle.module_session.specs.Steps.{files_step}
-use Rattle.module_session.proofs.Worlds.{served_alone}
+use Rattle.module_session.specs.Calls.{IsCallTaken}
 use Rattle.module_session.proofs.session.Session.call.Goals as goal
 
-pub file_call-requires-clause-laid_out : goal.file_call-requires-clause-laid_out
-file_call-requires-clause-laid_out g c =
-    let step = c.requires.ready.in_step in
-    let size = (g.R.Rig.state c.args.rig.now).size in
-    subst (λ (sites : List TreeSite). AreLaidOut (map window_of sites) size) (sym step.tree_sites) (trees_laid_out c.args.self.now.table size step.superblock.room)
+pub returns-in-File : goal.returns-in-File
+returns-in-File g c = subst (λ (call : Call). IsCallTaken g.R.Rig.tells_view c.args.p call c.args.self.now c.file.new.self (g.R.Rig.state c.args.rig.now) (g.R.Rig.state c.file.new.rig) c.file.result)
+    (sym c.in-File.is) c.file.ensures
 
-pub dir_call-requires-clause-laid_out : goal.dir_call-requires-clause-laid_out
-dir_call-requires-clause-laid_out g c =
-    let step = c.requires.ready.in_step in
-    let size = (g.R.Rig.state c.args.rig.now).size in
-    subst (λ (sites : List TreeSite). AreLaidOut (map window_of sites) size) (sym step.tree_sites) (trees_laid_out c.args.self.now.table size step.superblock.room)
+pub returns-in-Directory : goal.returns-in-Directory
+returns-in-Directory g c = subst (λ (call : Call). IsCallTaken g.R.Rig.tells_view c.args.p call c.args.self.now c.directory.new.self (g.R.Rig.state c.args.rig.now) (g.R.Rig.state c.directory.new.rig) c.directory.result)
+    (sym c.in-Directory.is) c.directory.ensures
 
-pub unreachable-requires : goal.unreachable-requires
-unreachable-requires g c = served_alone c.args.call.now c.in_default.not-File c.in_default.not-Directory c.requires.offered
+pub returns-in-Logbook : goal.returns-in-Logbook
+returns-in-Logbook g c = subst (λ (call : Call). IsCallTaken g.R.Rig.tells_view c.args.p call c.args.self.now c.logbook.new.self (g.R.Rig.state c.args.rig.now) (g.R.Rig.state c.logbook.new.rig) c.logbook.result)
+    (sym c.in-Logbook.is) c.logbook.ensures
 
-pub returns-in-File-clause-served : goal.returns-in-File-clause-served
-returns-in-File-clause-served g c =
-    let o = g.R.Rig.state c.args.rig.now in
-    let e = g.R.Rig.state c.file_call.new.rig in
-    let old = c.args.self.now in
-    subst (λ (call : Call). IsServed g.R.Rig.tells_view (λ fs. files_step old.table fs c.args.p.0 call) (ReadsFailed (reads_file call) o e) 52 3 old.trees c.file_call.new.trees old.handles c.file_call.new.handles o e c.file_call.result)
-    (sym c.in-File.is) c.file_call.ensures.served
+pub returns-in-Sampling : goal.returns-in-Sampling
+returns-in-Sampling g c = subst (λ (call : Call). IsCallTaken g.R.Rig.tells_view c.args.p call c.args.self.now c.sampling.new.self (g.R.Rig.state c.args.rig.now) (g.R.Rig.state c.args.rig.now) (Ok c.sampling.result))
+    (sym c.in-Sampling.is) c.sampling.ensures
 
-pub returns-in-Directory-clause-served : goal.returns-in-Directory-clause-served
-returns-in-Directory-clause-served g c =
-    let o = g.R.Rig.state c.args.rig.now in
-    let e = g.R.Rig.state c.dir_call.new.rig in
-    let old = c.args.self.now in
-    subst (λ (call : Call). IsServed g.R.Rig.tells_view (λ fs. files_step old.table fs c.args.p.0 call) (ReadsFailed (reads_file call) o e) 52 3 old.trees c.dir_call.new.trees old.handles c.dir_call.new.handles o e c.dir_call.result)
-    (sym c.in-Directory.is) c.dir_call.ensures.served
+pub returns-in-SetMode : goal.returns-in-SetMode
+returns-in-SetMode g c = subst (λ (call : Call). IsCallTaken g.R.Rig.tells_view c.args.p call c.args.self.now c.set_mode.new.self (g.R.Rig.state c.args.rig.now) (g.R.Rig.state c.args.rig.now) (Ok c.set_mode.result))
+    (sym c.in-SetMode.is) c.set_mode.ensures
+
+pub returns-in-SetContext : goal.returns-in-SetContext
+returns-in-SetContext g c = subst (λ (call : Call). IsCallTaken g.R.Rig.tells_view c.args.p call c.args.self.now c.set_context.new.self (g.R.Rig.state c.args.rig.now) (g.R.Rig.state c.args.rig.now) (Ok c.set_context.result))
+    (sym c.in-SetContext.is) c.set_context.ensures

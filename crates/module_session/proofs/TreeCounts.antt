@@ -1,10 +1,8 @@
 -- A call of files or directories leaves as many trees as there were.
-use Rattle.std.proofs.Common.{◌≡◌, ℕ, Bool, true, not, List, refl, length, Option, Some, None}
+use Rattle.std.proofs.Common.{◌≡◌, ℕ, Bool, true, false, not, List, refl, length, Option, Some, None}
 use Rattle.std.specs.Prelude.{ℤ, pos, ◌+ℤ◌, ◌==◌, ◌&&◌, ◌||◌, nat_le, nat_lt, is_some, slice_set, Result, Ok, Err}
 use Rattle.std.proofs.lemmas.List.{length-set}
 use Rattle.apex_types.specs.Rows.{Rows}
-use Rattle.apex_types.specs.declared.calls.Call.{Call}
-use Rattle.apex_types.specs.declared.calls.Call.TheVariants as call
 use Rattle.apex_types.specs.declared.calls.DirCall.{DirCall}
 use Rattle.apex_types.specs.declared.calls.DirCall.TheVariants.{OpenDirectory, CloseDirectory, ReadDirectory, RewindDirectory, MakeDirectory, RemoveDirectory, SyncDirectory}
 use Rattle.apex_types.specs.declared.calls.FileCall.{FileCall}
@@ -14,16 +12,15 @@ use Rattle.apex_types.specs.declared.calls.Whence.{Whence}
 use Rattle.apex_types.specs.declared.codes.Errno.{Errno}
 use Rattle.apex_types.specs.declared.codes.Errno.TheVariants.{Ebadf, Estale, Einval, Eacces, Efbig, Enospc, Eoverflow, Ebusy, Eexist, Emfile, Enotempty}
 use Rattle.apex_types.specs.declared.replies.Values.{Values}
-use Rattle.apex_model.specs.DirectoryStep.{open_directory_at, open_directory, close_directory, give_entry, read_directory, rewind_directory, make_directory, has_entries, remove_directory_at, remove_directory, sync_directory, directory_service}
+use Rattle.apex_model.specs.DirectoryStep.{open_directory_at, open_directory, close_directory, give_entry, read_directory, rewind_directory, make_directory, has_entries, remove_directory_at, remove_directory, sync_directory, directory_service, directory_step}
 use Rattle.apex_model.specs.Files.{File, Content, size, change_count, changed}
-use Rattle.apex_model.specs.FileStep.{FileOutcome, open_new_at, open_new_file, right_for, open_at, open_file, close_file, read_file, change, write_file, base, within_size, seek_file, resize_file, sync_file, remove_file_at, remove_file, rename_at, rename_file, get_file_status, is_empty, get_volume_status, file_service}
+use Rattle.apex_model.specs.FileStep.{FileOutcome, open_new_at, open_new_file, right_for, open_at, open_file, close_file, read_file, change, write_file, base, within_size, seek_file, resize_file, sync_file, remove_file_at, remove_file, rename_at, rename_file, get_file_status, is_empty, get_volume_status, file_service, file_step}
 use Rattle.apex_model.specs.FileSystem.{FileSystem, tree_in, handles_in, quota_of, file_limit, directory_limit, file_of, at_place, on_path, on_file_handle, on_file, on_directory_handle, on_directory}
 use Rattle.apex_model.specs.Handles.{OpenedFile, OpenedDirectory, handle_at, least_free, may_write, any_open, is_file_handle_to, is_directory_handle_to, is_writer_of}
 use Rattle.apex_model.specs.Outcomes.{state_after}
 use Rattle.apex_model.specs.Tables.{Place, Right, owner_alone, owner_or_reader, place_of}
 use Rattle.apex_model.specs.Trees.{Name, Node, directory, file, Tree, standing_at, with_node, walk, file_count, directory_count, tree_charge, entries_within, next_entry}
 use Rattle.apex_model.proofs.Keeps.{keeps-if, keeps-given, keeps-for}
-use Rattle.module_session.specs.Steps.{files_step}
 
 module _ (table : Rows) (fs : FileSystem) (p : ℕ) where
   -- as many trees as there were
@@ -224,12 +221,12 @@ module _ (table : Rows) (fs : FileSystem) (p : ℕ) where
   directory_service-counts (RemoveDirectory path) = remove_directory-counts path
   directory_service-counts (SyncDirectory id) = sync_directory-counts id
 
-  -- ---- all of them
+  -- ---- all of them, of a partition that is ready for a call or not
 
-  pub step_counts : (c : Call) → length (state_after fs (files_step table fs p c)).trees ≡ length fs.trees
-  step_counts (call.File c) = file_service-counts c
-  step_counts (call.Directory c) = directory_service-counts c
-  step_counts (call.Logbook c) = refl
-  step_counts (call.Sampling c) = refl
-  step_counts (call.SetMode mode) = refl
-  step_counts (call.SetContext context) = refl
+  pub file_step-counts : (ready : Bool) (c : FileCall) → Counts (file_step table fs p ready c)
+  file_step-counts true c = file_service-counts c
+  file_step-counts false c = refl
+
+  pub directory_step-counts : (ready : Bool) (c : DirCall) → Counts (directory_step table fs p ready c)
+  directory_step-counts true c = directory_service-counts c
+  directory_step-counts false c = refl
