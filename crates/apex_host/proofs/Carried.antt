@@ -14,7 +14,7 @@ use Rattle.rig_core.specs.Leaves.{LeavesPairs}
 use Rattle.rig_core.specs.Outside.{Outside, Sound, OnlyReads, IsToldPart}
 use Rattle.script_model.specs.Script.{script_of}
 use Rattle.image_layout.specs.Ready.{Stores}
-use Rattle.module_session.specs.Sessions.{IsTick}
+use Rattle.module_session.specs.Sessions.{IsOfLogbooks}
 use Rattle.module_session.specs.declared.session.Session.{Session}
 use Rattle.module_session.proofs.Ready.{session_in_step}
 use Rattle.script_run.specs.Pairs.{IsPair}
@@ -41,7 +41,7 @@ state-or_empty rows (Err r) = empty_durable rows
 -- ---- since reads alone were made
 
 module _ {V : Type 0} (o m e : Outside) (reads : OnlyReads V o m) where
-  cause-since : (line : Line) → Rose m.write_faults e.write_faults ⊎ (IsTick line.deed × Rose m.read_faults e.read_faults) → Rose o.write_faults e.write_faults ⊎ (IsTick line.deed × Rose o.read_faults e.read_faults)
+  cause-since : (line : Line) → Rose m.write_faults e.write_faults ⊎ (IsOfLogbooks line.deed × Rose m.read_faults e.read_faults) → Rose o.write_faults e.write_faults ⊎ (IsOfLogbooks line.deed × Rose o.read_faults e.read_faults)
   cause-since line cause = ⊎_elim
       (λ r. inl (rose-after o.write_faults m.write_faults e.write_faults reads.later.write_faults r))
       (λ r. inr (r.0, rose-after o.read_faults m.read_faults e.read_faults reads.later.read_faults r.1)) cause

@@ -4,6 +4,5 @@ pub mod Cuts
 pub mod Disks
 pub mod EndLaws
 pub mod Endings
-pub mod Offers
 pub mod SourceReads
 pub mod StopLaws

@@ -14,7 +14,7 @@ use Rattle.table_model.specs.Table.{table_of}
 use Rattle.table_model.specs.declared.errors.TableError.{TableError}
 use Rattle.script_model.specs.Script.{Refusal, script_of}
 use Rattle.script_model.specs.Refusals.{refusal_line}
-use Rattle.module_session.specs.Sessions.{IsTick}
+use Rattle.module_session.specs.Sessions.{IsOfLogbooks}
 use Rattle.script_run.specs.Reached.{RoseBy}
 use Rattle.apex_host.specs.Told.{IsCutShort, run_text, formatted_line, usage_line, table_refused_line, table_fault_line, script_fault_line, image_refused_line, mount_fault_line, format_fault_line}
 use Rattle.apex_host.specs.declared.command.Command.{Command}
@@ -118,10 +118,10 @@ pub record IsRunText (tells_view : Type 0) (rows : Rows) (lines : List Line) (ol
   pub of_image : tells_view → (stored : Durable) × (state_of rows old.view ≡ Ok stored)
       × (text ≡ run_text rows failed (start rows stored) lines)
 
--- The device failed in a line: in a write or a sync, or in a read of a tick.
+-- The device failed in a line: in a write or a sync, or in a read of a tick or of a call of logbooks.
 abbrev pub LineFailed : Line → Seen → Seen → Type 0
 LineFailed line old now = Rose old.write_faults now.write_faults
-    ⊎ (IsTick line.deed × Rose old.read_faults now.read_faults)
+    ⊎ (IsOfLogbooks line.deed × Rose old.read_faults now.read_faults)
 
 -- ---- why a command ends
 

@@ -3,7 +3,6 @@ ghost use Rattle.std.specs.Prelude.{◌≡◌, ◌≤◌, [], Some, Ok, IfOk, If
 ghost use Rattle.std.specs.List.{AllByRecursion};
 ghost use Rattle.apex_model.specs.Accepted.{IsAccepted};
 ghost use Rattle.apex_model.specs.Lines.{IsLineOf};
-ghost use Rattle.module_session.specs.Sessions.{IsOffered};
 ghost use Rattle.apex_host.specs.Endings.{GaveTable, GaveScript};
 ghost use Rattle.apex_host.specs.Stops.{StopsTable, StopsScript};
 
@@ -45,7 +44,6 @@ pub fn accepted_script<S: Source>(
     requires { IsAccepted table.now }
     ensures gave { IfOk result (GaveScript (S.left source.old) (S.left source.new) table.now) }
     ensures of_table { IfOk result (λ lines. AllByRecursion (IsLineOf table.now) lines) }
-    ensures offered { IfOk result (λ lines. AllByRecursion (λ line. IsOffered line.deed) lines) }
     ensures stopped { IfErr result
         (StopsScript table.now (S.left source.old) (S.faults source.old) (S.faults source.new)) }
     ensures good { OnOk result (S.faults source.new ≡ S.faults source.old) }

@@ -3,7 +3,7 @@ ghost use Rattle.std.specs.Prelude.{◌≡◌, IfOk, IfErr};
 ghost use Rattle.apex_model.specs.Accepted.{IsAccepted};
 ghost use Rattle.rig_core.specs.Leaves.{IsAllSettled};
 ghost use Rattle.rig_core.specs.Outside.{OnlyReads};
-ghost use Rattle.module_session.specs.Sessions.{table_of_session, IsReady};
+ghost use Rattle.module_session.specs.Sessions.{table_of_session, IsEarly, IsReady};
 ghost use Rattle.apex_host.specs.Opening.{StartsFrom};
 ghost use Rattle.apex_host.specs.Stops.{StopsMount};
 
@@ -20,6 +20,7 @@ pub fn opened_session<R: Rig>(alloc: Global, table: Table, rig: &mut R) -> Resul
     requires accepted { IsAccepted table }
     requires settled { IsAllSettled (R.state rig.old) }
     ensures table { IfOk result (λ session. table_of_session session ≡ table) }
+    ensures early { IfOk result (IsEarly 1) }
     ensures ready { IfOk result (IsReady R.tells_view (R.state rig.new)) }
     ensures starts { R.tells_view
         → IfOk result (StartsFrom R.tells_view table (R.state rig.old) (R.state rig.new)) }

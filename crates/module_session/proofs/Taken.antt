@@ -65,6 +65,7 @@ module _ (V : Type 0) (o e : Outside) (old new : Session) (number : ℕ) (p : Pa
     carried_out = ⊎_elim (λ answer. replied told answer) (λ failure. unread told failure) taken.told;
     moments = taken.moments;
     runs = taken.runs;
+    moves = tt;
     cause = tt;
     tellable = λ r is. let same : told ≡ r = cc in subst IsTellable same taken.tellable;
   }
@@ -78,6 +79,7 @@ module _ (V : Type 0) (o e : Outside) (old new : Session) (number : ℕ) (p : Pa
     carried_out = tt;
     moments = taken.moments;
     runs = taken.runs;
+    moves = tt;
     cause = taken.cause;
     tellable = tt;
   }

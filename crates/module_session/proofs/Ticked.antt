@@ -92,7 +92,8 @@ at_time old logs time = record {
 }
 
 module _ (V K : Type 0) (o e : Outside) (sound : Sound V K o) (sound_after : Sound V K e) (old : Session) (logs : List Book) (ready : IsReady V o old)
-    (changes : ChangesLogs V (moved_all (log_sites_of old.logs)) old.logs logs o e) (line : Line) (n : ℕ) (is : line.deed ≡ deed.Tick n) where
+    (changes : ChangesLogs V (moved_all (log_sites_of old.logs)) old.logs logs o e)
+    (made : MakesAtMost (3 * moving_count old.logs) (if moving_count old.logs == 0 then 0 else 3) 0 o e) (line : Line) (n : ℕ) (is : line.deed ≡ deed.Tick n) where
   abbrev next : Session
   next = at_time old logs (old.time + n)
 
@@ -153,6 +154,7 @@ module _ (V K : Type 0) (o e : Outside) (sound : Sound V K o) (sound_after : Sou
     carried_out = record { failed = []; failures = inl refl; reply_is = λ w stands tells. refl; stands = next_stands moved };
     moments = moments;
     runs = logs_runs V K o e sound sound_after old logs word ready changes;
+    moves = made;
     cause = tt;
     tellable = λ reply none. absurd cc;
   })
@@ -167,6 +169,7 @@ module _ (V K : Type 0) (o e : Outside) (sound : Sound V K o) (sound_after : Sou
     carried_out = tt;
     moments = moments;
     runs = logs_runs V K o e sound sound_after old logs word ready changes;
+    moves = made;
     cause = ⊎_elim (λ read. inr (tt, read)) (λ written. inl written) rose;
     tellable = tt;
   }

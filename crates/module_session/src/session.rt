@@ -49,7 +49,7 @@ pub struct Session {
 impl Session {
     ghost use Rattle.module_session.specs.Calls.{IsCallTaken, IsRestarted};
     ghost use Rattle.module_session.specs.Sessions.{table_of_session, has_failed, IsCarriedOut, IsEarly, IsOfLogbooks, IsReady, StandsFor};
-    ghost use Rattle.module_session.specs.Steps.{IsTaken};
+    ghost use Rattle.module_session.specs.Steps.{IsTaken, MovesFew};
 
     /// The state of a module of this table after power on, with what was mounted from a device: no handle is open, no
     /// logbook or port is created, no channel holds a message, and each partition is in COLD_START. It takes all memory
@@ -286,6 +286,7 @@ impl Session {
             (R.state rig.old) (R.state rig.new) }
         ensures runs { Runs R.tells_view 0 (512 * layout_blocks (table_of_session self.old)) 96 3
             (R.state rig.old) (R.state rig.new) }
+        ensures moves { MovesFew line.now.deed self.old (R.state rig.old) (R.state rig.new) }
         ensures cause { OnErr result (Rose (R.state rig.old).write_faults (R.state rig.new).write_faults
             ⊎ (IsOfLogbooks line.now.deed × Rose (R.state rig.old).read_faults (R.state rig.new).read_faults)) }
         ensures tellable { IfOk result (λ reply. ForSome reply IsTellable) }

@@ -27,7 +27,7 @@ above-less : (m n : ℕ) (lines : List Line) → m ≤ n → AllByRecursion (λ 
 above-less m n [] le h = tt
 above-less m n (line ∷ lines) le h = (let a = h.0 in omega (arith, le, a), above-less m n lines le h.1)
 
-above : (n : ℕ) (lines : List Line) → rise_above n lines ≡ true → AllByRecursion (λ line. n < line.number) lines
+pub above : (n : ℕ) (lines : List Line) → rise_above n lines ≡ true → AllByRecursion (λ line. n < line.number) lines
 above n [] h = tt
 above n (line ∷ lines) h =
     let r = rises n line lines h in

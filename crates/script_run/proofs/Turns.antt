@@ -17,7 +17,7 @@ use Rattle.apex_model.specs.Validity.{IsValid}
 use Rattle.apex_model.specs.World.{World}
 use Rattle.image_layout.specs.Ready.{Stores}
 use Rattle.model_laws.specs.RunText.{ReplyLinesTell}
-use Rattle.module_session.specs.Sessions.{table_of_session, reply_in, AreFailures, IsCarriedOut, IsReady, IsTick, StandsFor}
+use Rattle.module_session.specs.Sessions.{table_of_session, reply_in, AreFailures, IsCarriedOut, IsEarly, IsOfLogbooks, IsReady, StandsFor}
 use Rattle.module_session.specs.declared.session.Session.{Session}
 use Rattle.module_session.proofs.Ready.{session_in_step, ready_after_told, stands_after_told}
 use Rattle.recover_scan.proofs.Changes.{later_same, later_then}
@@ -32,7 +32,7 @@ use Rattle.script_run.specs.Told.{told_line, TellsText}
 use Rattle.script_run.proofs.Moments.{Tells, tells-lines, says-left, silent-pairs, told-pairs, during-left, fault-left, reply-left}
 use Rattle.script_run.proofs.OneLine.{drop-line, own-text, none-or, world-more, text-more, failures-more}
 use Rattle.script_run.proofs.Parts.{part-after, back-some, rose-after}
-use Rattle.script_run.proofs.Rising.{IsNoneOr, behind-line, higher-not}
+use Rattle.script_run.proofs.Rising.{IsNoneOr, above, behind-line, higher-not}
 use Rattle.script_run.proofs.Worlds.{cut-as_begins, lines-valid}
 
 -- ---- counts
@@ -88,8 +88,17 @@ none-ahead : (lines : List Line) → AllByRecursion (λ line. is_among [] line.n
 none-ahead [] = tt
 none-ahead (line ∷ lines) = (refl, none-ahead lines)
 
-pub reached-none : {T V K : Type 0} → StepKeepsValid → (lines : List Line) (first : Session) (o : Outside) → Sound V K o → IsReady V o first → Reached T V (table_of_session first) lines 0 first o first o
-reached-none {T} {V} {K} step lines first o sound ready =
+-- a session that is early for one number is so for each above it
+early-above : (n : ℕ) (session : Session) (lines : List Line) → IsEarly (n + 1) session → AllByRecursion (λ line. n < line.number) lines → AllByRecursion (λ line. IsEarly line.number session) lines
+early-above n session [] early h = tt
+early-above n session (line ∷ lines) early h = (let a = h.0 in omega (arith, early, a), early-above n session lines early h.1)
+
+-- and so for the line that is next
+pub first-early : (lines : List Line) (k : ℕ) (line : Line) (session : Session) → slice_get lines k ≡ Some line → AllByRecursion (λ l. IsEarly l.number session) (drop k lines) → IsEarly line.number session
+first-early lines k line session at early = (subst (λ (ls : List Line). AllByRecursion (λ l. IsEarly l.number session) ls) (drop-line lines k line at) early).0
+
+pub reached-none : {T V K : Type 0} → StepKeepsValid → (lines : List Line) (first : Session) (o : Outside) → Sound V K o → IsReady V o first → IsEarly 1 first → AreNumbered lines → Reached T V (table_of_session first) lines 0 first o first o
+reached-none {T} {V} {K} step lines first o sound ready early rise =
     let table = table_of_session first in
     record {
       ready = ready;
@@ -98,6 +107,7 @@ reached-none {T} {V} {K} step lines first o sound ready =
       due = [];
       is_due = record { within = omega arith; few = omega arith; text = λ v w stands. refl; failures = λ v w stands valid. refl };
       ahead = none-ahead lines;
+      early = early-above 0 first lines early (above 0 lines rise);
       stands = λ w stands. stands;
       told = λ t. sym (append-nil o.told);
       later = later_same o;
@@ -211,18 +221,21 @@ module _ (T V K : Type 0) (table : Rows) (lines : List Line) (first : Session) (
         (reply-left is_at.step is_at.law table is_at.accepted w valid lines is_at.are k line is_at.at reached.failed reached.due (tells-here v w stands valid) more all_failed (told_line line.number reply)
         (next-world w) (sym (own-text table more (here w) line reply (reply-is v w stands))) told))
 
-    pub reached-line : (T → e.told ≡ m2.told ++ told_line line.number reply) → Reached T V table lines (k + 1) first o next e
-    reached-line told = record {
+    -- the lines to come have higher numbers
+    higher : AllByRecursion (λ later. line.number < later.number) (drop (k + 1) lines)
+    higher = subst (λ n. AllByRecursion (λ later. line.number < later.number) (drop n lines)) (let e : suc k ≡ k + 1 = omega arith in e) (behind-line 0 lines k line is_at.rise is_at.at)
+
+    pub reached-line : IsEarly (line.number + 1) next → (T → e.told ≡ m2.told ++ told_line line.number reply) → Reached T V table lines (k + 1) first o next e
+    reached-line early told = record {
       ready = ready_after_told V K (told_line line.number reply) m2 e next sound.1 sound.2 steps.ready tell.later tell.view tell.cuts;
       same_table = steps.same_table;
       failed = all_failed;
       due = text;
       is_due = due-more;
       ahead = (
-          let higher : AllByRecursion (λ later. line.number < later.number) (drop (k + 1) lines) =
-          subst (λ n. AllByRecursion (λ later. line.number < later.number) (drop n lines)) (let e : suc k ≡ k + 1 = omega arith in e) (behind-line 0 lines k line is_at.rise is_at.at) in
           let rest = subst (λ (ls : List Line). AllByRecursion (λ l. is_among reached.failed l.number ≡ false) ls) (drop-line lines k line is_at.at) reached.ahead in
           higher-not reached.failed line.number more (drop (k + 1) lines) is higher rest.1);
+      early = early-above line.number next (drop (k + 1) lines) early higher;
       stands = λ w stands. stands_after_told V K (told_line line.number reply) m2 e next sound.1 sound.2 steps.ready tell.later tell.view tell.cuts (world_after_all table all_failed w (take (k + 1) lines))
           (let P : World → Type 0 = λ u. StandsFor V m2 next u in subst P (sym (next-world w)) (steps.carried.stands (here w) (reached.stands w stands)));
       told = λ t. told t ∙ ap (λ (x : List ℕ). x ++ told_line line.number reply) (steps.quiet ∙ reached.told t) ∙ append_assoc o.told reached.due (told_line line.number reply);
@@ -242,7 +255,7 @@ module _ (T V K : Type 0) (table : Rows) (lines : List Line) (first : Session) (
 
   -- ---- the device failed in the line
 
-  module _ (m2 e : Outside) (later : Later m m2) (quiet : m2.told ≡ m.told) (cause : Rose m.write_faults m2.write_faults ⊎ (IsTick line.deed × Rose m.read_faults m2.read_faults))
+  module _ (m2 e : Outside) (later : Later m m2) (quiet : m2.told ≡ m.told) (cause : Rose m.write_faults m2.write_faults ⊎ (IsOfLogbooks line.deed × Rose m.read_faults m2.read_faults))
       (tell : TellsText T V (fault_line line.number) m2 e) where
     fails : FailsIn V table lines first o e line reached.due
     fails = record {
@@ -251,7 +264,7 @@ module _ (T V K : Type 0) (table : Rows) (lines : List Line) (first : Session) (
       failed = reached.failed;
       is_due = due-still e (let a = later.read_faults in let b = tell.later.read_faults in omega (arith, a, b));
       cause = ⊎_elim (λ rose. inl (rose-after o.write_faults m.write_faults m2.write_faults e.write_faults reached.later.write_faults rose tell.later.write_faults))
-          (λ tick. inr (tick.0, rose-after o.read_faults m.read_faults m2.read_faults e.read_faults reached.later.read_faults tick.1 tell.later.read_faults)) cause;
+          (λ read. inr (read.0, rose-after o.read_faults m.read_faults m2.read_faults e.read_faults reached.later.read_faults read.1 tell.later.read_faults)) cause;
     }
 
     pub halts : (T → e.told ≡ m2.told ++ fault_line line.number) → Halts T V table lines first o e

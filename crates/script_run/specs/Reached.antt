@@ -8,7 +8,7 @@ use Rattle.apex_model.specs.Run.{fault_line, text_of, replies_to, world_after_al
 use Rattle.apex_model.specs.Validity.{IsValid}
 use Rattle.apex_model.specs.World.{World}
 use Rattle.model_laws.specs.RunText.{failures_of}
-use Rattle.module_session.specs.Sessions.{table_of_session, IsReady, IsTick, StandsFor}
+use Rattle.module_session.specs.Sessions.{table_of_session, IsEarly, IsOfLogbooks, IsReady, StandsFor}
 use Rattle.module_session.specs.declared.session.Session.{Session}
 use Rattle.rig_core.specs.Causes.{last_count, Rose}
 use Rattle.rig_core.specs.Leaves.{LeavesPairs}
@@ -48,14 +48,16 @@ pub record Reached (tells_text tells_view : Type 0) (table : Rows) (lines : List
   pub is_due : IsDue tells_view table lines k first o e failed due
   -- no line that is still to come is among the failed
   pub ahead : AllByRecursion (λ line. is_among failed line.number ≡ false) (drop k lines)
+  -- and each of them is early for the session
+  pub early : AllByRecursion (λ line. IsEarly line.number session) (drop k lines)
   pub stands : (w : World) → StandsFor tells_view o first w
       → StandsFor tells_view e session (world_after_all table failed w (take k lines))
   pub told : tells_text → e.told ≡ o.told ++ due
   pub later : Later o e
   pub pairs : LeavesRunPairs tells_text tells_view table lines first o e
 
--- The device failed in a line, in a write or a sync, or in a read of a tick. This text was due for
--- the lines before it.
+-- The device failed in a line, in a write or a sync, or in a read of a tick or of a call of logbooks.
+-- This text was due for the lines before it.
 pub record FailsIn (tells_view : Type 0) (table : Rows) (lines : List Line) (first : Session)
     (o e : Outside) (line : Line) (due : List ℕ) : Type 0 where
   pub k : ℕ
@@ -63,7 +65,7 @@ pub record FailsIn (tells_view : Type 0) (table : Rows) (lines : List Line) (fir
   pub failed : List ℕ
   pub is_due : IsDue tells_view table lines k first o e failed due
   pub cause : Rose o.write_faults e.write_faults
-      ⊎ (IsTick line.deed × Rose o.read_faults e.read_faults)
+      ⊎ (IsOfLogbooks line.deed × Rose o.read_faults e.read_faults)
 
 -- And that was told.
 pub record Halts (tells_text tells_view : Type 0) (table : Rows) (lines : List Line)

@@ -4,7 +4,7 @@ ghost use Rattle.std.specs.List.{AllByRecursion};
 ghost use Rattle.std.specs.Option.{ForSome};
 ghost use Rattle.apex_model.specs.Lines.{IsLineOf};
 ghost use Rattle.apex_model.specs.Run.{fault_line};
-ghost use Rattle.module_session.specs.Sessions.{table_of_session, IsReady, IsOffered};
+ghost use Rattle.module_session.specs.Sessions.{table_of_session, IsEarly, IsReady};
 ghost use Rattle.rig_core.specs.Causes.{Rose};
 ghost use Rattle.rig_core.specs.Outside.{Later};
 ghost use Rattle.script_run.specs.Reached.{LeavesRunPairs, Reached, Halts, StopsTelling};
@@ -68,7 +68,7 @@ pub fn carry_out<R: Rig>(
 ) -> Result<(), LineStop>
     requires ready { IsReady R.tells_view (R.state rig.old) session.old }
     requires of_table { AllByRecursion (IsLineOf (table_of_session session.old)) script.now }
-    requires offered { AllByRecursion (λ line. IsOffered line.deed) script.now }
+    requires early { IsEarly 1 session.old }
     ensures ran { OnOk result (Reached R.tells_text R.tells_view (table_of_session session.old)
         script.now (length script.now) session.old (R.state rig.old)
         session.new (R.state rig.new)) }

@@ -2,23 +2,23 @@ use Rattle.std.proofs.Common.{◌≡◌, ℕ, length, sym, subst, arith}
 use Rattle.apex_types.specs.Rows.{Rows}
 use Rattle.apex_model.specs.Lines.{IsLineOf}
 use Rattle.apex_model.proofs.AcceptedTables.{all_at}
-use Rattle.module_session.specs.Sessions.{table_of_session, IsOffered}
+use Rattle.module_session.specs.Sessions.{table_of_session, IsEarly}
 use Rattle.script_run.specs.Reached.{Reached}
 use Rattle.script_run.specs.declared.lines.LineStop.TheVariants as stop
-use Rattle.script_run.proofs.Turns.{AtLine, Steps, made-steps, made-moments, reached-none, reached-line, reply-pairs, stops-reply, fault-pairs, halts, stops-fault}
+use Rattle.script_run.proofs.Turns.{AtLine, Steps, first-early, made-steps, made-moments, reached-none, reached-line, reply-pairs, stops-reply, fault-pairs, halts, stops-fault}
 use Rattle.script_run.proofs.lines.carry_out.Given as given
 use Rattle.script_run.proofs.lines.carry_out.Goals as goal
 
 pub lines-init : goal.lines-init
-lines-init g c = reached-none c.step_keeps_valid.ensures c.args.script.now c.args.session.now (g.R.Rig.state c.args.rig.now) (g.met.R.Rig.sound c.args.rig.now) c.requires.ready
+lines-init g c = reached-none c.step_keeps_valid.ensures c.args.script.now c.args.session.now (g.R.Rig.state c.args.rig.now) (g.met.R.Rig.sound c.args.rig.now) c.requires.ready c.requires.early c.len-k-end.ensures.numbered
 
 pub step-requires-clause-of_table : goal.step-requires-clause-of_table
 step-requires-clause-of_table g c =
     let line = c.line-line.result.now in
     subst (λ (t : Rows). IsLineOf t line) (sym c.lines.invariant.same_table) (all_at (IsLineOf (table_of_session c.args.session.now)) c.args.script.now c.lines.k line c.requires.of_table c.line-line.ensures.value)
 
-pub step-requires-clause-offered : goal.step-requires-clause-offered
-step-requires-clause-offered g c = all_at (λ line. IsOffered line.deed) c.args.script.now c.lines.k c.line-line.result.now c.requires.offered c.line-line.ensures.value
+pub step-requires-clause-early : goal.step-requires-clause-early
+step-requires-clause-early g c = first-early c.args.script.now c.lines.k c.line-line.result.now c.lines.session c.line-line.ensures.value c.lines.invariant.early
 
 -- ---- the device failed in a line
 
@@ -114,7 +114,7 @@ lines-preserved g c =
     (g.R.Rig.state c.lines.rig)
     (at-told g c) c.step.new.self c.in-Ok.reply (g.R.Rig.state c.step.new.rig) (g.R.Rig.state c.tell_reply.new.rig) (g.met.R.Rig.sound c.lines.rig, g.met.R.Rig.sound c.step.new.rig, g.met.R.Rig.sound c.tell_reply.new.rig) (steps-told g c)
     (made-moments (table_of_session c.args.session.now) (table_of_session c.lines.session) c.line-line.result.now c.lines.session (g.R.Rig.state c.lines.rig) (g.R.Rig.state c.step.new.rig) c.lines.invariant.same_table c.step.ensures.moments)
-    c.tell_reply.ensures.tells c.in-Ok-tell_reply.ensures.told
+    c.tell_reply.ensures.tells c.in-Ok.ensures.early c.in-Ok-tell_reply.ensures.told
 
 pub returns-clause-ran : goal.returns-clause-ran
 returns-clause-ran g c =

@@ -28,7 +28,7 @@ returns-in_err-move_all-in-Tick g c =
       later = made.later;
       made = few_calls g.R.Rig.tells_view o e old c.requires.ready made.made;
     } in
-    tick_failed g.R.Rig.tells_view g.R.Rig.keeps_cuts o e (g.met.R.Rig.sound c.args.rig.now) (g.met.R.Rig.sound c.move_all.new.rig) old c.move_all.new.self c.requires.ready changes c.args.line.now
+    tick_failed g.R.Rig.tells_view g.R.Rig.keeps_cuts o e (g.met.R.Rig.sound c.args.rig.now) (g.met.R.Rig.sound c.move_all.new.rig) old c.move_all.new.self c.requires.ready changes made.made c.args.line.now
     c.in-Tick.ticks c.in-Tick.is c.from_residual.result c.from_residual.ensures.0 c.in_err-move_all-in-Tick.ensures.cause
 
 pub returns-in_ok-move_all-in-Tick : goal.returns-in_ok-move_all-in-Tick
@@ -47,7 +47,7 @@ returns-in_ok-move_all-in-Tick g c =
       made = few_calls g.R.Rig.tells_view o e old c.requires.ready made.made;
     } in
     let done = c.in_ok-move_all-in-Tick.ensures in
-    tick_taken g.R.Rig.tells_view g.R.Rig.keeps_cuts o e (g.met.R.Rig.sound c.args.rig.now) (g.met.R.Rig.sound c.move_all.new.rig) old c.move_all.new.self c.requires.ready changes c.args.line.now
+    tick_taken g.R.Rig.tells_view g.R.Rig.keeps_cuts o e (g.met.R.Rig.sound c.args.rig.now) (g.met.R.Rig.sound c.move_all.new.rig) old c.move_all.new.self c.requires.ready changes made.made c.args.line.now
     c.in-Tick.ticks c.in-Tick.is old.table c.requires.of_table c.requires.early done.settled done.moved
 
 pub returns-in_err-reply-in-Partition : goal.returns-in_err-reply-in-Partition
