@@ -5,8 +5,12 @@ ghost use Rattle.rig_core.specs.MemRig.{mem_state};
 mod directory_calls;
 mod faults;
 mod file_calls;
+mod flights;
 mod formats;
 mod images;
+mod logbooks;
+mod modes;
+mod ports;
 mod refusals;
 
 use apex_host::{Status, host};
@@ -184,12 +188,12 @@ fn refused_scripts_carry_nothing_out(rt: HostRuntime) -> Result<(), Fail> {
             b"script refused 3 UnknownPartition line 3\n"
         )?
     );
-    let later = b"FMS CREATE_LOGBOOK FAULTS\n";
+    let other = b"FMS CREATE_BUFFER FAULTS\n";
     assert!(rt;
         runs(
             rt.alloc(),
             SMALL,
-            later,
+            other,
             Status::ScriptRefused,
             b"script refused 4 UnknownCall line 1\n"
         )?

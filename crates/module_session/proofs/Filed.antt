@@ -1,5 +1,5 @@
 -- A call of files or directories, as a call that was taken up.
-use Rattle.std.proofs.Common.{◌≡◌, ◌⊎◌, inl, inr, ⊎_elim, ℕ, ◌*◌, ◌≤◌, Bool, true, false, List, length, map, refl, sym, ap, subst, ◌∙◌, arith}
+use Rattle.std.proofs.Common.{◌≡◌, inl, inr, ⊎_elim, ℕ, ◌*◌, Bool, true, false, List, length, map, refl, sym, ap, subst, ◌∙◌, arith}
 use Rattle.std.specs.Prelude.{Err, Ok, OnOk, Result}
 use Rattle.apex_types.specs.declared.calls.Call.{Call}
 use Rattle.apex_types.specs.declared.calls.Call.TheVariants as call
@@ -19,7 +19,7 @@ use Rattle.apex_model.specs.World.{Partition, World, call_step, is_ready, with_f
 use Rattle.apex_model.proofs.Keeps.{state_after-map}
 use Rattle.open_handles.specs.NodeHandles.{AllHandles}
 use Rattle.rig_core.specs.Causes.{Rose}
-use Rattle.rig_core.specs.Outside.{MakesAtMost, Outside, Sound}
+use Rattle.rig_core.specs.Outside.{Outside, Sound}
 use Rattle.rig_core.specs.Runs.{Runs, Shows}
 use Rattle.rig_core.specs.Windows.{AreWithin}
 use Rattle.rig_core.specs.declared.source.DeviceFault.{DeviceFault}
@@ -27,8 +27,7 @@ use Rattle.store_model.specs.Betweens.{TreeSite}
 use Rattle.tree_store.specs.Serving.{AreOfTable, AreServing, AreStored, IsAnswered, IsUnread as IsUnreadOver, StandOver, sites_of, window_of}
 use Rattle.tree_store.specs.declared.store.TreeStore.{TreeStore}
 use Rattle.service_parts.specs.Serving.{IsServed, ReadsFailed}
-use Rattle.service_parts.specs.Told.{IsTellable}
-use Rattle.image_layout.specs.Ready.{AreInStep, Stores}
+use Rattle.image_layout.specs.Ready.{Stores}
 use Rattle.image_layout.proofs.After.{books_after_trees, in_step_after_trees}
 use Rattle.image_layout.proofs.Following.{trees_in_image}
 use Rattle.image_layout.proofs.Moments.{tree_call_moments}

@@ -1,5 +1,5 @@
 -- What a call of the logbooks leaves of the whole image and of all that stands beside the logbooks.
-use Rattle.std.proofs.Common.{◌≡◌, ℕ, ◌*◌, List, length, refl, sym, ap, subst, ◌∙◌}
+use Rattle.std.proofs.Common.{◌≡◌, ℕ, ◌*◌, List, length, sym, ap, subst, ◌∙◌}
 use Rattle.apex_model.specs.Durable.{IsCutBetween}
 use Rattle.apex_model.specs.FileSystem.{FileSystem}
 use Rattle.apex_model.specs.Layout.{layout_blocks}

@@ -1,5 +1,5 @@
 -- A call of logbooks, as a call that was taken up.
-use Rattle.std.proofs.Common.{◌≡◌, ◌⊎◌, inl, inr, ⊎_elim, ℕ, ◌≤◌, Bool, List, length, refl, sym, ap, subst, ◌∙◌, arith}
+use Rattle.std.proofs.Common.{◌≡◌, ◌⊎◌, inl, inr, ⊎_elim, ℕ, ◌≤◌, Bool, List, refl, sym, ap, subst, ◌∙◌, arith}
 use Rattle.std.specs.Prelude.{Err, IfOk, Ok, OnErr, OnOk, Result}
 use Rattle.apex_types.specs.declared.calls.Call.TheVariants as call
 use Rattle.apex_types.specs.declared.calls.Deed.TheVariants as deed
@@ -28,7 +28,7 @@ use Rattle.module_session.specs.Calls.{IsCallTaken, IsReplied}
 use Rattle.module_session.specs.Partitions.{partition_at}
 use Rattle.module_session.specs.Sessions.{IsReady, StandsFor}
 use Rattle.module_session.specs.declared.session.Session.{Session}
-use Rattle.module_session.proofs.LogChanges.{ChangesLogs, logs_count, logs_files, logs_in_step, logs_moments, logs_runs}
+use Rattle.module_session.proofs.LogChanges.{ChangesLogs, logs_files, logs_in_step, logs_moments, logs_runs}
 use Rattle.module_session.proofs.Replies.{reply_of-map}
 
 -- a clear makes few writes, and no other call makes any

@@ -7,7 +7,7 @@ use Rattle.apex_types.specs.declared.calls.SamplingCall.{SamplingCall}
 use Rattle.apex_types.specs.declared.numbers.PartitionId.{PartitionId}
 use Rattle.apex_types.specs.declared.replies.Reply.{Reply}
 use Rattle.apex_model.specs.Channels.{PortSystem, PortOutcome, sampling_step}
-use Rattle.apex_model.specs.Outcomes.{Outcome, accepted, refused, map_state, reply_of, state_after}
+use Rattle.apex_model.specs.Outcomes.{map_state, reply_of, state_after}
 use Rattle.apex_model.specs.World.{Partition, World, partition_in, with_ports}
 use Rattle.apex_model.proofs.Keeps.{state_after-map}
 use Rattle.rig_core.specs.Outside.{Outside, Sound}

@@ -1,6 +1,5 @@
 -- What a call of a partition comes to, in the words of the whole world.
 use Rattle.std.specs.Prelude.{◌≡◌, ◌⊎◌, ℕ, ◌*◌, true, Result, IfOk, OnOk, OnErr}
-use Rattle.apex_types.specs.Rows.{Rows}
 use Rattle.apex_types.specs.declared.calls.Call.{Call}
 use Rattle.apex_types.specs.declared.calls.Deed.TheVariants as deed
 use Rattle.apex_types.specs.declared.calls.Mode.{Mode}

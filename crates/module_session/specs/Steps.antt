@@ -1,5 +1,5 @@
 -- What a line does to a session.
-use Rattle.std.specs.Prelude.{◌≡◌, ◌⊎◌, ℕ, ◌+◌, ◌*◌, ◌==◌, if◌then◌else◌, Option, Result, IfOk, OnOk, OnErr, ⊤}
+use Rattle.std.specs.Prelude.{◌≡◌, ◌⊎◌, ◌+◌, ◌*◌, ◌==◌, if◌then◌else◌, Option, Result, IfOk, OnOk, OnErr, ⊤}
 use Rattle.std.specs.Option.{ForSome}
 use Rattle.apex_types.specs.declared.calls.Deed.{Deed}
 use Rattle.apex_types.specs.declared.calls.Deed.TheVariants as deed

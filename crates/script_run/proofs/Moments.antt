@@ -1,5 +1,5 @@
 -- What a cut leaves beside the text told, at the moments of a line.
-use Rattle.std.proofs.Common.{◌≡◌, ⊎_elim, ◌⊎◌, ℕ, ◌+◌, ◌≤◌, List, [], ◌∷◌, ◌++◌, length, sym, ap, ◌∙◌, subst, append_assoc}
+use Rattle.std.proofs.Common.{◌≡◌, ⊎_elim, ℕ, ◌+◌, ◌≤◌, List, [], ◌∷◌, ◌++◌, length, sym, ap, ◌∙◌, subst, append_assoc}
 use Rattle.std.specs.Prelude.{take, drop, slice_get, Some}
 use Rattle.std.specs.List.{AllByRecursion}
 use Rattle.apex_types.specs.Rows.{Rows}

@@ -18,7 +18,7 @@ channel = []
 ";
 
 /// Four partitions with five trees on two volumes, six logbooks and four channels.
-const FOUR_PARTITIONS: &[u8] =
+pub const FOUR_PARTITIONS: &[u8] =
     b"partition = [{ name = \"FMS\" }, { name = \"DISP\" }, { name = \"MNT\" }, { name = \"RAD\" }]
 volume = [{ name = \"NV1\", blocks = 4096 }, { name = \"NV2\", blocks = 2560 }]
 tree = [

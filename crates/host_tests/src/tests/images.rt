@@ -84,7 +84,7 @@ fn scripts_that_ask_for_nothing_leave_the_image(rt: HostRuntime) -> Result<(), F
 }
 
 /// Whether what a cut after so many calls leaves is told by one of two texts, however it leaves pending bytes.
-fn is_left(
+pub fn is_left(
     alloc: Global,
     table: &[u8],
     rig: &MemRig,

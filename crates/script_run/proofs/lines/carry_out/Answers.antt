@@ -2,7 +2,7 @@ use Rattle.std.proofs.Common.{◌≡◌, ℕ, length, sym, subst, arith}
 use Rattle.apex_types.specs.Rows.{Rows}
 use Rattle.apex_model.specs.Lines.{IsLineOf}
 use Rattle.apex_model.proofs.AcceptedTables.{all_at}
-use Rattle.module_session.specs.Sessions.{table_of_session, IsEarly}
+use Rattle.module_session.specs.Sessions.{table_of_session}
 use Rattle.script_run.specs.Reached.{Reached}
 use Rattle.script_run.specs.declared.lines.LineStop.TheVariants as stop
 use Rattle.script_run.proofs.Turns.{AtLine, Steps, first-early, made-steps, made-moments, reached-none, reached-line, reply-pairs, stops-reply, fault-pairs, halts, stops-fault}

@@ -4,7 +4,7 @@ use Rattle.logbook_store.specs.Moves.{moved_all}
 use Rattle.logbook_store.proofs.Mounting.{sites_laid_out}
 use Rattle.module_session.proofs.LogChanges.{ChangesLogs}
 use Rattle.module_session.proofs.Taken.{line_failed, line_taken}
-use Rattle.module_session.proofs.Ticked.{early_enough, few_calls, tick_failed, tick_taken}
+use Rattle.module_session.proofs.Ticked.{few_calls, tick_failed, tick_taken}
 use Rattle.module_session.proofs.session.Session.take.Goals as goal
 
 pub move_all-requires-clause-laid_out : goal.move_all-requires-clause-laid_out
