@@ -8,6 +8,7 @@ use Rattle.apex_types.specs.declared.calls.Line.{Line}
 use Rattle.apex_model.specs.Durable.{Durable, start, empty_durable, IsCut}
 use Rattle.apex_model.specs.Image.{Refusal, state_of}
 use Rattle.apex_model.specs.Run.{replies_to, text_of, fault_line, world_after_all}
+use Rattle.apex_model.specs.Validity.{IsValid}
 use Rattle.apex_model.specs.World.{World}
 use Rattle.rig_core.specs.Causes.{Rose}
 use Rattle.rig_core.specs.Leaves.{LeavesPairs}
@@ -109,6 +110,12 @@ module _ {V : Type 0} (rows : Rows) (lines : List Line) (o m e : Outside) (reads
 
   -- ---- what the disk is
 
+  start-valid : V → (stored : Durable) → state_of rows o.view ≡ Ok stored → IsValid rows (start rows stored)
+  start-valid v stored image =
+      let begun = starts v in
+      let same : begun.stored ≡ stored = ok-ok {E = Refusal} (sym begun.image ∙ image) in
+      subst (λ (d : Durable). IsValid rows (start rows d)) same begun.valid
+
   module _ {T : Type 0} (pairs : LeavesRunPairs T V rows lines first m e) where
     since-start : LeavesRun T V rows lines o e
     since-start tells v stored image =
@@ -143,7 +150,7 @@ module _ {V : Type 0} (rows : Rows) (lines : List Line) (o m e : Outside) (reads
 
   module _ {T : Type 0} {t s : Option (List ℕ)} (table : IsTableOf t rows) (script : ForSome s (λ bytes. script_of rows bytes ≡ Ok lines)) (pairs : LeavesRunPairs T V rows lines first m e) where
     run-begins : BeginsRun T V t s o e
-    run-begins = record { rows = rows; lines = lines; spelled = table; read = script; pairs = since-start pairs }
+    run-begins = record { rows = rows; lines = lines; spelled = table; read = script; pairs = since-start pairs; valid = start-valid }
 
     pub fault-leaves_run : LeavesDisk T V t s o e (Some Run) DeviceFault
     fault-leaves_run = run_failed DeviceFault (inl refl) run-begins

@@ -1,5 +1,5 @@
 -- What a cut may leave while lines are told.
-use Rattle.std.proofs.Common.{◌≡◌, ◌≢◌, ℕ, ◌⊎◌, inl, inr, ⊎_elim, List, length, Option, Some, refl, sym, ap, subst, ◌∙◌, arith}
+use Rattle.std.proofs.Common.{◌≡◌, ◌≢◌, ℕ, inl, inr, ⊎_elim, List, length, Option, Some, refl, sym, ap, subst, ◌∙◌, arith}
 use Rattle.rig_core.specs.Bytes.{byte}
 use Rattle.rig_core.specs.Leaves.{Leaves, LeavesPairs, IsAllSettled}
 use Rattle.rig_core.specs.Outside.{Outside, Sound, Later, MakesAtMost, Speaks, OnlyReads}

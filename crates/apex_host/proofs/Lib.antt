@@ -4,5 +4,6 @@ pub mod Cuts
 pub mod Disks
 pub mod EndLaws
 pub mod Endings
+pub mod EntryLaws
 pub mod SourceReads
 pub mod StopLaws

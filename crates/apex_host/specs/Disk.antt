@@ -6,6 +6,7 @@ use Rattle.apex_types.specs.declared.calls.Line.{Line}
 use Rattle.apex_model.specs.Durable.{Durable, start, IsCut}
 use Rattle.apex_model.specs.Image.{state_of}
 use Rattle.apex_model.specs.Run.{world_after_all}
+use Rattle.apex_model.specs.Validity.{IsValid}
 use Rattle.rig_core.specs.Leaves.{LeavesPairs}
 use Rattle.rig_core.specs.Outside.{Outside, Now, AllNow, Later}
 use Rattle.recover_scan.specs.Format.{OldOrFormatted, KeepsRest, IsFormatted, IsWholeEmpty}
@@ -90,6 +91,8 @@ pub record BeginsRun (tells_text tells_view : Type 0) (table script : Option (Li
   pub spelled : IsTableOf table rows
   pub read : ForSome script (λ bytes. script_of rows bytes ≡ Ok lines)
   pub pairs : LeavesRun tells_text tells_view rows lines old new
+  pub valid : tells_view → (stored : Durable) → state_of rows old.view ≡ Ok stored
+      → IsValid rows (start rows stored)
 
 -- this image stands for what a cut leaves at the end of a run in which these reads failed
 abbrev pub HoldsWorld : Rows → List ℕ → Durable → List Line → List ℕ → Type 0

@@ -1,6 +1,6 @@
-//! What follows from how a command ends. The functions are empty: each contract is a law of what
+//! What follows from how a command ends. The functions do nothing: each contract is a law of what
 //! `host` ensures, of any two moments.
-ghost use Rattle.std.specs.Prelude.{◌≡◌, ◌<◌, ◌≤◌, ℕ, List, [], Option, Some, None, Ok, Err};
+ghost use Rattle.std.specs.Prelude.{◌≡◌, ◌⊎◌, ◌<◌, ◌≤◌, ℕ, List, [], Option, Some, None, Ok, Err};
 ghost use Rattle.apex_types.specs.Rows.{Rows};
 ghost use Rattle.apex_types.specs.declared.calls.Line.{Line};
 ghost use Rattle.apex_model.specs.Durable.{Durable, start};
@@ -11,13 +11,15 @@ ghost use Rattle.table_model.specs.Table.{table_of};
 ghost use Rattle.table_model.specs.declared.errors.TableError.{TableError};
 ghost use Rattle.script_model.specs.Script.{Refusal, script_of};
 ghost use Rattle.script_model.specs.Refusals.{refusal_line};
-ghost use Rattle.apex_host.specs.Disk.{LeavesDisk, FormatsDisk, RunsSafely};
+ghost use Rattle.apex_host.specs.Disk.{LeavesDisk, FormatsDisk, IsUntouched, RunsSafely};
 ghost use Rattle.apex_host.specs.Endings.{Seen, DeviceFailed, EndsSo, image_bytes};
+ghost use Rattle.apex_host.specs.Entries.{LeavesEntries};
 ghost use Rattle.apex_host.specs.Laws.{Means, ReadsTable, ReadsLines, IsQuiet, IsQuietRun, IsQuietFormat, EndsWith, EndsOrStarves};
 ghost use Rattle.apex_host.specs.Told.{run_text, formatted_line, usage_line, table_refused_line, image_refused_line};
 
 use crate::command::Command;
 use crate::status::Status;
+use model_laws::step_keeps_valid;
 use rig_core::Rig;
 
 /// A status comes only of its cause.
@@ -113,3 +115,20 @@ pub fn cuts_of_runs<R: Rig>()
         (R.state before) (R.state after) (Some Command.Run) status
         → RunsSafely rows lines stored (R.state before) (R.state after) }
 {}
+
+/// At every moment of a run with an accepted table and script, if it touched the disk at all, a loss
+/// of power leaves each entry that was logged when a told line was carried out, until its logbook is
+/// cleared or newer entries drop it.
+pub fn keeps_logged_entries<R: Rig>()
+    ensures { R.tells_text → R.tells_view → (before after : R) (status : Status)
+        (table script : List ℕ) (rows : Rows) (lines : List Line) (stored : Durable)
+        → table_of table ≡ Ok rows → script_of rows script ≡ Ok lines
+        → state_of rows (R.state before).view ≡ Ok stored
+        → LeavesDisk R.tells_text R.tells_view (Some table) (Some script)
+        (R.state before) (R.state after) (Some Command.Run) status
+        → LeavesEntries rows lines stored (R.state before) (R.state after)
+        ⊎ IsUntouched R.tells_view (R.state before) (R.state after) }
+{
+    // That every line keeps a valid state, on which the law rests.
+    step_keeps_valid();
+}

@@ -15,8 +15,8 @@ mod top;
 
 pub use command::Command;
 pub use laws::{
-    carries_out, cuts_of_runs, formats, formats_at_every_moment, refuses_images, refuses_scripts,
-    refuses_small, refuses_tables, statuses_mean, tells_usage,
+    carries_out, cuts_of_runs, formats, formats_at_every_moment, keeps_logged_entries,
+    refuses_images, refuses_scripts, refuses_small, refuses_tables, statuses_mean, tells_usage,
 };
 pub use status::Status;
 pub use top::host;

@@ -4,4 +4,4 @@ pub mod Parts
 mod Rising
 mod Texts
 mod Turns
-mod Worlds
+pub mod Worlds

@@ -57,7 +57,7 @@ module _ (table : Rows) (failed : List ℕ) where
       ap (λ (ts : List Told). told_for table failed w line.number line.deed ++ ts) (replies-append next lines more)
       ∙ sym (append_assoc (told_for table failed w line.number line.deed) (replies_to table failed next lines) (replies_to table failed (world_after_all table failed next lines) more))
 
-  world-append : (w : World) (lines more : List Line) → world_after_all table failed w (lines ++ more) ≡ world_after_all table failed (world_after_all table failed w lines) more
+  pub world-append : (w : World) (lines more : List Line) → world_after_all table failed w (lines ++ more) ≡ world_after_all table failed (world_after_all table failed w lines) more
   world-append w [] more = refl
   world-append w (line ∷ lines) more = world-append (world_after_line table failed w line) lines more
 

@@ -1,4 +1,4 @@
-//! Told lines of kinds that no run of today tells.
+//! Told lines of every kind of reply: statuses of ports, the end of a run, the largest numbers.
 ghost use Rattle.std.specs.Prelude.{◌≤◌};
 
 use apex_types::{Reply, ReturnCode, Values};
