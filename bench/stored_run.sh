@@ -19,14 +19,15 @@ if ! [ -x "$program" ]; then
     exit 1
 fi
 
-python3 - "$program" <<'END'
+python3 - "$program" "$top/examples" <<'END'
 import os
+import shutil
 import subprocess
 import sys
 import tempfile
 import time
 
-PROGRAM = sys.argv[1]
+PROGRAM, EXAMPLES = sys.argv[1:]
 RUNS = 5
 BLOCK = 512
 
@@ -117,6 +118,32 @@ def synchronisations():
     beside("SYNC_FILE of a small file", 1.2, lines, 100, [[BLOCK, 1], [body, 64 * BLOCK], [1]])
 
 
+def flight():
+    """The flight of 300 lines: three changes of names, then 48 times a synchronisation and the move of a logbook's message."""
+    with open(f"{EXAMPLES}/module_m.toml") as file:
+        folder_of(file.read())
+    with open(f"{EXAMPLES}/flight.script", "rb") as file:
+        script = file.read()
+    shutil.copy("disk.img", "empty.img")
+    turn = [[BLOCK, 1], [13_824, 64 * BLOCK], [1], [], [BLOCK], [1]]
+
+    def flown():
+        command(["run"], script)
+
+    def alone():
+        calls([[BLOCK], [1]], 3)
+        calls(turn, 48)
+
+    times = []
+    for _ in range(RUNS):
+        shutil.copy("empty.img", "disk.img")
+        os.sync()
+        times.append([seconds(lambda: run([])), seconds(flown), seconds(alone)])
+    idle, taken, floor = [min(column) for column in zip(*times)]
+    print(f"a flight of 300 lines: {1e3 * (taken - idle):.0f} milliseconds, its calls alone {1e3 * floor:.0f}, "
+          f"ratio {(taken - idle) / floor:.2f} (at most 1.2 is wanted)")
+
+
 def mounts():
     folder_of(table(4096, 64, 48))
     lengths = [33 * BLOCK, 2 * (1 + body_blocks(4096, 64) + 64) * BLOCK]
@@ -183,6 +210,7 @@ def memory():
 
 names()
 synchronisations()
+flight()
 mounts()
 idle_lines()
 large_files()
