@@ -1,5 +1,5 @@
 //! Three logbooks of two partitions, and steps of them as data: calls, ticks and restarts, each with its reply.
-ghost use Rattle.std.specs.Prelude.{◌≡◌, ◌≤◌, IfOk, OnOk, IsTrue, Some, length, slice_get};
+ghost use Rattle.std.specs.Prelude.{◌≡◌, ◌≤◌, ℕ, IfOk, OnOk, IsTrue, Some, length, slice_get};
 ghost use Rattle.apex_model.specs.Accepted.{IsAccepted};
 ghost use Rattle.apex_model.specs.Layout.{layout_blocks};
 ghost use Rattle.rig_core.specs.Leaves.{IsAllSettled};
