@@ -1,9 +1,9 @@
 #!/bin/sh
 # Shows apexhost at its main job: a module's table and a script of service calls go in, and one line comes out for each call.
 #
-#   sh demo.sh           runs the program without its proof, in about a minute
-#   sh demo.sh proved    builds the proved program and runs it on all examples, then formats an image; the first build
-#                        proves every crate that the program stands on, which takes about half an hour
+#   sh demo.sh           runs a short flight without the program's proof, in about a minute
+#   sh demo.sh proved    builds the proved program and runs it on all examples, formats an image, and kills runs in the
+#                        middle; the first build proves every crate that the program is made of, in about an hour
 #
 # The kit's rt must be on the PATH. The checkout stays as it was, but for the folders out/ that a build makes.
 set -u
@@ -49,16 +49,16 @@ compare() {
 # Runs one example by rt try: no proof is made or read.
 try_run() {
     echo "Running apexhost without its proof. The command that proves it: rt ci (or sh demo.sh proved)."
-    show_script small.toml one_file.script
+    show_script small.toml short_flight.script
     echo "== told by: apexhost run, over a formatted image"
     (cd "$crate" && rt try --data module.toml="$top/examples/small.toml" --data disk.img=data/disk.img -- run) \
-        <"$top/examples/one_file.script" >"$room/log" 2>&1
+        <"$top/examples/short_flight.script" >"$room/log" 2>&1
     grep -E '^[0-9]+ ' "$room/log" >"$room/told"
     cat "$room/told"
     grep -q '^run=ended status=0' "$room/log"
-    compare $? one_file.told
+    compare $? short_flight.told
     echo
-    echo "These are the lines of examples/one_file.told, worked out apart from the program."
+    echo "These are the lines of examples/short_flight.told, worked out apart from the program."
 }
 
 # Builds the proved program, with a line for each crate and the minutes so far.
@@ -124,6 +124,7 @@ if [ "${1:-try}" = try ]; then
 fi
 build
 show_run small.toml one_file.script one_file.told
+show_run small.toml short_flight.script short_flight.told
 show_run module.toml first_run.script first_run.told
 show_run module.toml file_services.script file_services.told
 show_run module.toml directories.script directories.told
@@ -133,3 +134,6 @@ show_run module_m.toml flight.script flight.told
 echo
 echo "These are the lines of the files examples/*.told, worked out apart from the program."
 show_format small.toml 197
+echo
+echo "== runs that are killed in the middle of 20,000 changes, each followed by one that reads what is left (bench/killed.sh)"
+sh "$top/bench/killed.sh" "$program" 3 7
