@@ -2,10 +2,10 @@
 ghost use Rattle.std.specs.Prelude.{◌+◌, ◌≤◌, length, IsTrue};
 
 use apex_types::{ByteList, CallKind, FailList, NumberList};
-use rig_core::{MemRig, MemSource, PendingBytes, PlainRig, Rig, Source};
+use rig_core::{FuseRig, MemRig, MemSource, PendingBytes, PlainRig, Rig, Source};
 use std::alloc::Global;
 use std::test::Fail;
-use test_fixtures::{failing, list_of, rig_of};
+use test_fixtures::{CUTS, failing, list_of, rig_of};
 
 // A call of a disk. A read has the bytes that it is to give, at most four.
 #[derive(Clone, Copy)]
@@ -133,15 +133,14 @@ fn pending(alloc: Global) -> Result<MemRig, Fail> {
     Ok(rig)
 }
 
-// The first byte of each block after a cut.
-fn firsts(rig: &MemRig, calls: u32, left: PendingBytes) -> Result<Option<(u8, u8)>, Fail> {
-    let image = rig.cut_image(calls, left)?;
+// The first byte of each block of an image of two.
+fn firsts(image: &ByteList) -> Option<(u8, u8)> {
     let bytes = image.bytes();
-    Ok(if bytes.len() == 1024 {
+    if bytes.len() == 1024 {
         Some((bytes[0], bytes[512]))
     } else {
         None
-    })
+    }
 }
 
 #[test]
@@ -161,11 +160,69 @@ fn a_cut_leaves_what_was_synchronised_and_some_of_what_is_pending(
     let rig = pending(rt.alloc())?;
     for (calls, left, want) in rows {
         assert_eq!(rt;
-            firsts(&rig, calls, left)?,
+            firsts(&rig.cut_image(calls, left)?),
             Some(want),
             "after {calls} calls"
         );
     }
+    Ok(())
+}
+
+// Two blocks of zeros under a fuse: ones are written into both and synchronised, then twos.
+fn fused(alloc: Global, calls: u64) -> Result<FuseRig, Fail> {
+    let mut rig = FuseRig::new(alloc, list_of(alloc, &[0; 1024])?, calls)?;
+    let steps = [
+        (Step::Write(0, &[1; 1024]), calls > 0),
+        (Step::Sync, calls > 1),
+        (Step::Write(0, &[2; 1024]), calls > 2),
+        (Step::Tell(b"dropped\n"), calls > 2),
+        (Step::Sync, calls > 3),
+        (Step::Read(511, &[2, 2]), calls > 3),
+    ];
+    if !goes(&mut rig, &steps) || rig.starved() {
+        return Err(Fail::from("fused"));
+    }
+    Ok(rig)
+}
+
+#[test]
+fn a_fuse_lets_so_many_calls_pass_and_none_after(rt: HostRuntime) -> Result<(), Fail> {
+    for calls in 0..6 {
+        assert_eq!(rt;
+            fused(rt.alloc(), calls)?.made(),
+            calls.min(4),
+            "at most {calls} calls"
+        );
+    }
+    Ok(())
+}
+
+#[test]
+fn a_cut_of_a_fused_disk_leaves_what_it_names(rt: HostRuntime) -> Result<(), Fail> {
+    let rows = [
+        (PendingBytes::None, (1, 1)),
+        (PendingBytes::All, (2, 2)),
+        (PendingBytes::EvenBlocks, (2, 1)),
+    ];
+    let rig = fused(rt.alloc(), 3)?;
+    for (left, want) in rows {
+        assert_eq!(rt; firsts(&rig.cut_image(left)?), Some(want));
+    }
+    let rig = fused(rt.alloc(), 4)?;
+    for left in CUTS {
+        assert_eq!(rt; firsts(&rig.cut_image(left)?), Some((2, 2)));
+    }
+    Ok(())
+}
+
+#[test]
+fn a_write_that_a_fuse_refuses_is_pending(rt: HostRuntime) -> Result<(), Fail> {
+    let rig = fused(rt.alloc(), 2)?;
+    assert_eq!(rt; firsts(&rig.cut_image(PendingBytes::None)?), Some((1, 1)));
+    assert_eq!(rt;
+        firsts(&rig.cut_image(PendingBytes::EvenBlocks)?),
+        Some((2, 1))
+    );
     Ok(())
 }
 
