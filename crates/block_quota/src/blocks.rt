@@ -45,10 +45,7 @@ impl Blocks {
     pub fn new(alloc: Global, quota: u16) -> Result<Blocks, OutOfMemory>
         ensures { IfOk result (λ blocks. blocks ≡ replicate (2 * quota) false) }
     {
-        let mut used = Vec::new(alloc);
-        for _ in 0..2 * quota as u32 {
-            used.push(false)?;
-        }
+        let used = vec![in alloc; false; 2 * quota as usize]?;
         Ok(Blocks { used, from: 0 })
     }
 

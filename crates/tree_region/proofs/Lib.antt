@@ -37,6 +37,7 @@ pub mod Records
 pub mod Removed
 pub mod Replaced
 pub mod Replaying
+pub mod RowRooms
 pub mod Spelled
 pub mod SpelledBodies
 pub mod Stored

@@ -19,7 +19,7 @@ pub fn read_fields(
     requires { 64 + 128 * files ≤ length body.now }
     ensures { IfOk result (λ fields. option_map (λ list. list.items) fields ≡ fields_in version body.now files) }
 {
-    let mut fields = Vec::new(alloc);
+    let mut fields = Vec::with_capacity(alloc, files as usize)?;
     for k in 0..files as usize {
         let at = 64 + 128 * k;
         let Some(field) = entry_at(&body[at..at + 128], version) else {
@@ -48,7 +48,7 @@ pub fn read_numbers(
     requires { 64 + 128 * entries + 4 * quota ≤ length body.now }
     ensures { IfOk result (λ numbers. numbers.items ≡ map (block_number body.now entries) (range_with_len 0 quota)) }
 {
-    let mut numbers = Vec::new(alloc);
+    let mut numbers = Vec::with_capacity(alloc, quota as usize)?;
     for k in 0..quota as usize {
         let number = number_at(body, 64 + 128 * entries + 4 * k);
         numbers.push(number)?;

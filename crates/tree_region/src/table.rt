@@ -64,7 +64,7 @@ fn numbers_of_files(
     requires { sum_by (λ field. blocks_of (size_of_field field)) fields.now ≤ length numbers.now }
     ensures { IfOk result (λ files. files.items ≡ numbers_by_file room fields.now numbers.now) }
 {
-    let mut files = Vec::new(alloc);
+    let mut files = Vec::with_capacity(alloc, fields.len())?;
     let mut at = 0;
     for k in 0..fields.len() {
         let end = at + blocks_in(&fields[k]) as usize;

@@ -16,7 +16,7 @@ pub(crate) fn stored_sizes(
 ) -> Result<Vec<PresentSize>, OutOfMemory>
     ensures { IfOk result (λ sizes. AreStoredSizes tree.now files sizes.items) }
 {
-    let mut sizes = Vec::new(alloc);
+    let mut sizes = Vec::with_capacity(alloc, files as usize)?;
     for place in 0..files {
         let (size, changes) = tree.stored(FileNode(place));
         sizes.push(PresentSize { size, changes })?;
@@ -40,7 +40,7 @@ pub(crate) fn copy_rows(
 ) -> Result<Vec<BlockNumbers>, OutOfMemory>
     ensures { IfOk result (λ copies. copies.items ≡ rows.now) }
 {
-    let mut copies = Vec::new(alloc);
+    let mut copies = Vec::with_capacity(alloc, rows.len())?;
     for row in rows {
         copies.push(copy_of(alloc, row)?)?;
     }
