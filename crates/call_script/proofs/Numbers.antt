@@ -3,7 +3,7 @@ use Rattle.std.proofs.Common.{◌≡◌, ℕ, zero, suc, ◌+◌, ◌<◌, ◌�
 use Rattle.std.proofs.lemmas.Bool.{and_parts}
 use Rattle.std.proofs.lemmas.Bool.Decides.{nat_tests}
 use Rattle.std.proofs.lemmas.List.{append-nil}
-use Rattle.std.specs.Prelude.{IfSome, slice_index_or}
+use Rattle.std.specs.Prelude.{IfSome, filter, slice_index_or}
 use Rattle.apex_types.specs.declared.calls.Line.{Line}
 use Rattle.script_model.specs.Numbering.{last_from, last_number, rise_above, AreNumbered}
 
@@ -80,6 +80,30 @@ found-numbered lines k line h lt e =
 pub numbered-after : (ok : Bool) (old new : List Line) (line : Line) → new ≡ cond ok (old ++ line ∷ []) old → AreNumbered old → last_number old < line.number → line.number ≤ 20000 → AreNumbered new
 numbered-after true old new line e h above few = rw e (numbered-pushed old line h above few)
 numbered-after false old new line e h above few = rw e h
+
+-- ---- a script of which some lines are kept
+
+rise-lower : (m n : ℕ) (lines : List Line) → m ≤ n → rise_above n lines ≡ true → rise_above m lines ≡ true
+rise-lower m n [] le h = refl
+rise-lower m n (line ∷ lines) le h =
+    let r = rises n line lines h in
+    rw (below_is m line.number (omega (arith, le, r.above)), most_is line.number 20000 r.few, r.rest) refl
+
+rise-filtered : (test : Line → Bool) (n : ℕ) (lines : List Line) → rise_above n lines ≡ true → rise_above n (filter test lines) ≡ true
+rise-filtered test n [] h = refl
+rise-filtered test n (line ∷ lines) h =
+    let r = rises n line lines h in
+    let rest = rise-filtered test line.number lines r.rest in
+    let kept : rise_above n (line ∷ filter test lines) ≡ true = rw (below_is n line.number r.above, most_is line.number 20000 r.few, rest) refl in
+    let left : rise_above n (filter test lines) ≡ true = rise-lower n line.number (filter test lines) (let above = r.above in omega (arith, above)) rest in
+    either (line ∷ filter test lines) (filter test lines) (test line) kept left
+  where
+    either : (some others : List Line) (b : Bool) → rise_above n some ≡ true → rise_above n others ≡ true → rise_above n (cond b some others) ≡ true
+    either some others true h k = h
+    either some others false h k = k
+
+pub numbered-filtered : (test : Line → Bool) (lines : List Line) → AreNumbered lines → AreNumbered (filter test lines)
+numbered-filtered test lines h = rise-filtered test 0 lines h
 
 -- ---- a script that grows line by line
 

@@ -205,7 +205,7 @@ fn has_leading_zero(word: &[u8]) -> bool
 
 /// The number that a word spells: `0`, or one to ten digits without a leading zero, at most 4,294,967,295.
 #[tactic(auto, unfolding(script_model::specs::Reading::number_of))]
-fn number_of(word: &[u8]) -> Option<u32>
+pub fn number_of(word: &[u8]) -> Option<u32>
     ensures { result ≡ number_of word.now }
 {
     if word.is_empty() {

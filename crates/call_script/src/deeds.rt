@@ -49,12 +49,13 @@ fn place_of(table: &Table, word: &[u8]) -> Option<usize>
         .position(|row| row.name.bytes() == word)
 }
 
-/// The partition of a name.
-fn partition_of(table: &Table, word: &[u8]) -> Option<PartitionId>
+/// The partition of a name, as scripts name it: none where no partition of the table has the name.
+pub fn partition_named(table: &Table, name: &[u8]) -> Option<PartitionId>
     requires { length table.now.partitions ≤ 16 }
-    ensures { option_map (λ p. p.0) result ≡ partition_at table.now word.now }
+    ensures value { option_map (λ p. p.0) result ≡ partition_at table.now name.now }
+    ensures within { IfSome result (λ p. p.0 < length table.now.partitions) }
 {
-    match place_of(table, word) {
+    match place_of(table, name) {
         Some(place) => Some(PartitionId(place as u8)),
         None => None,
     }
@@ -81,7 +82,7 @@ fn deed_from_words(alloc: Global, table: &Table, words: &[&[u8]]) -> Result<Deed
             if *word == b"TICK".as_slice() {
                 return tick(rest);
             }
-            match partition_of(table, word) {
+            match partition_named(table, word) {
                 Some(p) => {
                     let call = call_of(alloc, rest)?;
                     Ok(Deed::Partition { p, call })

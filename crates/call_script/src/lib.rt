@@ -11,6 +11,8 @@ mod reply_text;
 mod script;
 mod words;
 
+pub use arguments::number_of;
+pub use deeds::partition_named;
 pub use errors::ScriptError;
 pub use parse::parse_script;
 pub use reply::{fault_line, refusal_line, reply_line};

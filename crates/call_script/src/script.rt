@@ -1,9 +1,10 @@
 //! The lines of a script.
 
-ghost use Rattle.std.specs.Prelude.{◌≡◌, ◌≤◌, ◌<◌, ◌++◌, [], ◌∷◌, length, slice_get, Some, OnOk, OnErr};
+ghost use Rattle.std.specs.Prelude.{◌≡◌, ◌≤◌, ◌<◌, ◌++◌, [], ◌∷◌, length, filter, slice_get, Some, OnOk, OnErr};
+ghost use Rattle.apex_model.specs.Isolation.{is_marked, concerns};
 ghost use Rattle.script_model.specs.Numbering.{last_number};
 
-use apex_types::{Line, OutOfMemory};
+use apex_types::{Deed, Line, OutOfMemory, PartitionId};
 use std::alloc::Global;
 use std::marker::Model;
 
@@ -23,6 +24,26 @@ impl Model for Script {
     ghost view = { λ s. s.content.items };
 
     ghost invariant = { λ s. AreNumbered s.content.items };
+}
+
+/// Whether a partition is marked. One behind the end of the marks is not.
+fn is_marked(marked: &[bool], p: PartitionId) -> bool
+    ensures { result ≡ is_marked marked.now p.0 }
+{
+    match marked.get(p.0 as usize) {
+        Some(mark) => *mark,
+        None => false,
+    }
+}
+
+/// Whether it is a tick, or of a marked partition.
+fn concerns(marked: &[bool], deed: &Deed) -> bool
+    ensures { result ≡ concerns marked.now deed.now }
+{
+    match deed {
+        Deed::Tick(_) => true,
+        Deed::Partition { p, .. } => is_marked(marked, *p),
+    }
 }
 
 impl Script {
@@ -69,5 +90,13 @@ impl Script {
     {
         let _content = &self.content;
         &self.content[k as usize]
+    }
+
+    /// Keeps the ticks and the lines of marked partitions, in their order. It takes no memory.
+    pub fn of_partitions(mut self, marked: &[bool]) -> Script
+        ensures { result ≡ filter (λ line. concerns marked.now line.deed) self }
+    {
+        self.content.retain(|line| concerns(marked, &line.deed));
+        self
     }
 }

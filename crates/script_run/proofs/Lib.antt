@@ -1,7 +1,14 @@
+pub mod Choice
+mod Faults
+mod Hearing
 mod Moments
 pub mod OneLine
+pub mod OwnRuns
 pub mod Parts
 mod Rising
+mod Rounds
+mod Searched
 mod Texts
 mod Turns
+mod Whole
 pub mod Worlds

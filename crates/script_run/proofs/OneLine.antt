@@ -1,11 +1,10 @@
 -- What one more line adds to the replies, the world and the failures of a run.
-use Rattle.std.proofs.Common.{◌≡◌, inl, inr, ⊎_elim, ◌⊎◌, ℕ, ◌+◌, false, ◌||◌, List, [], ◌∷◌, ◌++◌, length, length-append, refl, sym, ap, ◌∙◌, subst, arith, append_assoc, append-nil, Option, Some, None}
-use Rattle.std.specs.Prelude.{◌==◌, if◌then◌else◌, map, filter, take, drop, slice_get}
+use Rattle.std.proofs.Common.{◌≡◌, inl, inr, ℕ, ◌+◌, false, ◌||◌, List, [], ◌∷◌, ◌++◌, refl, sym, ap, ◌∙◌, subst, append_assoc, Option, Some, None}
+use Rattle.std.specs.Prelude.{Bool, ◌==◌, if◌then◌else◌, map, filter, take, drop, slice_get}
 use Rattle.std.specs.List.{AllByRecursion}
 use Rattle.std.proofs.lemmas.List.{map-append, take_more, drop_more, take-append-drop}
 use Rattle.std.proofs.lemmas.List.Elements.{filter-append}
 use Rattle.std.proofs.lemmas.List.Folds.{list_any-append}
-use Rattle.std.proofs.lemmas.List.Sums.{sum_by-cons}
 use Rattle.std.proofs.lemmas.Option.{slice_get_within, get_or_from_slice_get}
 use Rattle.apex_types.specs.Rows.{Rows}
 use Rattle.apex_types.specs.declared.calls.Deed.{Deed}
@@ -14,22 +13,21 @@ use Rattle.apex_types.specs.declared.calls.Line.{Line}
 use Rattle.apex_types.specs.declared.codes.Errno.TheVariants.{Eio}
 use Rattle.apex_types.specs.declared.replies.Reply.{Reply}
 use Rattle.apex_model.specs.FailedReads.{is_among, call_outcome, world_after_line}
-use Rattle.apex_model.specs.Moments.{is_told}
 use Rattle.apex_model.specs.Outcomes.{reply_of, refusal}
 use Rattle.apex_model.specs.Run.{Told, text_of, reply_line, told_for, replies_to, world_after_all}
 use Rattle.apex_model.specs.Texts.{Text}
-use Rattle.apex_model.specs.ToldText.{reply_text, HasNoFeed}
 use Rattle.apex_model.specs.Validity.{IsValid}
 use Rattle.apex_model.specs.World.{World, call_step}
 use Rattle.apex_model.proofs.FailedReads.{failures_elsewhere}
-use Rattle.model_laws.specs.RunText.{is_failure, failures_of, ReplyLineTells}
+use Rattle.model_laws.specs.RunText.{is_failure, failures_of}
 use Rattle.model_laws.proofs.PlainSteps.{call_step-plain}
 use Rattle.module_session.specs.Sessions.{reply_in, AreFailures}
 use Rattle.script_model.specs.Numbering.{AreNumbered}
-use Rattle.script_run.specs.Pairs.{every_teller, reply_count}
+use Rattle.script_run.specs.Chosen.{told_to}
+use Rattle.script_run.specs.Pairs.{every_teller}
 use Rattle.script_run.specs.Told.{told_line}
 use Rattle.script_run.proofs.Rising.{IsNoneOr, before-line, lower-same}
-use Rattle.script_run.proofs.Texts.{front-of_line}
+use Rattle.script_run.proofs.Choice.{all-told, own-text}
 
 -- ---- lists
 
@@ -39,18 +37,18 @@ take-line lines k line at = take_more lines k line (slice_get_within lines k lin
 pub drop-line : (lines : List Line) (k : ℕ) (line : Line) → slice_get lines k ≡ Some line → drop k lines ≡ line ∷ drop (k + 1) lines
 drop-line lines k line at = drop_more lines k line (slice_get_within lines k line at) ∙ ap (λ (l : Line). l ∷ drop (k + 1) lines) (get_or_from_slice_get lines k line line at)
 
-text-append : (a b : List Told) → text_of (a ++ b) ≡ text_of a ++ text_of b
+pub text-append : (a b : List Told) → text_of (a ++ b) ≡ text_of a ++ text_of b
 text-append [] b = refl
 text-append (told ∷ a) b =
     ap (λ (t : Text). reply_line told.number told.reply ++ t) (text-append a b) ∙ sym (append_assoc (reply_line told.number told.reply) (text_of a) (text_of b))
 
-failures-append : (a b : List Told) → failures_of (a ++ b) ≡ failures_of a ++ failures_of b
+pub failures-append : (a b : List Told) → failures_of (a ++ b) ≡ failures_of a ++ failures_of b
 failures-append a b = ap (map (λ (t : Told). t.number)) (filter-append is_failure a b) ∙ map-append (λ (t : Told). t.number) (filter is_failure a) (filter is_failure b)
 
 -- ---- runs
 
 module _ (table : Rows) (failed : List ℕ) where
-  replies-append : (w : World) (lines more : List Line) → replies_to table failed w (lines ++ more) ≡ replies_to table failed w lines ++ replies_to table failed (world_after_all table failed w lines) more
+  pub replies-append : (w : World) (lines more : List Line) → replies_to table failed w (lines ++ more) ≡ replies_to table failed w lines ++ replies_to table failed (world_after_all table failed w lines) more
   replies-append w [] more = refl
   replies-append w (line ∷ lines) more =
       let next = world_after_line table failed w line in
@@ -61,49 +59,25 @@ module _ (table : Rows) (failed : List ℕ) where
   world-append w [] more = refl
   world-append w (line ∷ lines) more = world-append (world_after_line table failed w line) lines more
 
-  deed-count : (w : World) (number : ℕ) (d : Deed) → length (told_for table failed w number d) ≡ (if is_told every_teller (record { number = number; deed = d }) then 1 else 0)
-  deed-count w number (deed.Tick n) = refl
-  deed-count w number (deed.Partition p c) = refl
-
-  -- as many replies as lines that have one
-  pub told-count : (w : World) (lines : List Line) → length (replies_to table failed w lines) ≡ reply_count lines
-  told-count w [] = refl
-  told-count w (line ∷ lines) =
-      let next = world_after_line table failed w line in
-      length-append (told_for table failed w line.number line.deed) (replies_to table failed next lines)
-      ∙ (λ i. deed-count w line.number line.deed i + told-count next lines i)
-      ∙ sym (sum_by-cons (λ (l : Line). if is_told every_teller l then 1 else 0) line lines)
-
--- the text of the first lines is the front of the text
-pub text-front : (table : Rows) (failed : List ℕ) (w : World) (lines : List Line) (k : ℕ) → (back : Text) × (text_of (replies_to table failed w (take k lines)) ++ back ≡ text_of (replies_to table failed w lines))
-text-front table failed w lines k =
+-- the text of the first lines is the front of the text, also where the replies to these partitions alone are told
+pub told-front : (tellers : ℕ → Bool) (table : Rows) (failed : List ℕ) (w : World) (lines : List Line) (k : ℕ)
+    → (back : Text) × (text_of (told_to tellers (replies_to table failed w (take k lines))) ++ back ≡ text_of (told_to tellers (replies_to table failed w lines)))
+told-front tellers table failed w lines k =
+    let first = replies_to table failed w (take k lines) in
     let rest = replies_to table failed (world_after_all table failed w (take k lines)) (drop k lines) in (
-      text_of rest,
-      sym (text-append (replies_to table failed w (take k lines)) rest) ∙ ap text_of (sym (replies-append table failed w (take k lines) (drop k lines)))
-          ∙ ap (λ (ls : List Line). text_of (replies_to table failed w ls)) (take-append-drop k lines),
+      text_of (told_to tellers rest),
+      sym (text-append (told_to tellers first) (told_to tellers rest))
+          ∙ ap text_of (sym (filter-append (λ (told : Told). tellers told.partition) first rest))
+          ∙ ap (λ (ts : List Told). text_of (told_to tellers ts)) (sym (replies-append table failed w (take k lines) (drop k lines)))
+          ∙ ap (λ (ls : List Line). text_of (told_to tellers (replies_to table failed w ls))) (take-append-drop k lines),
     )
 
+pub text-front : (table : Rows) (failed : List ℕ) (w : World) (lines : List Line) (k : ℕ) → (back : Text) × (text_of (replies_to table failed w (take k lines)) ++ back ≡ text_of (replies_to table failed w lines))
+text-front table failed w lines k =
+    let front = told-front every_teller table failed w lines k in
+    (front.0, ap (λ (ts : List Told). text_of ts ++ front.0) (sym (all-told (replies_to table failed w (take k lines)))) ∙ front.1 ∙ ap text_of (all-told (replies_to table failed w lines)))
+
 -- ---- a line alone
-
--- what a line tells is its reply's line
-line-text : (table : Rows) (failed : List ℕ) (w : World) (number : ℕ) (d : Deed) (reply : Option Reply) → reply ≡ reply_in table failed w (record { number = number; deed = d })
-    → text_of (replies_to table failed w (record { number = number; deed = d } ∷ [])) ≡ told_line number reply
-line-text table failed w number (deed.Tick n) reply is = ap (told_line number) (sym is)
-line-text table failed w number (deed.Partition p c) reply is = append-nil (reply_line number (reply_of (call_outcome table failed w number p.0 c))) ∙ ap (told_line number) (sym is)
-
-pub own-text : (table : Rows) (failed : List ℕ) (w : World) (line : Line) (reply : Option Reply) → reply ≡ reply_in table failed w line → text_of (replies_to table failed w (line ∷ [])) ≡ told_line line.number reply
-own-text table failed w line reply is = line-text table failed w line.number line.deed reply is
-
--- a front of it is a part of a line, or all of it
-pub front-of_reply : (table : Rows) (failed : List ℕ) (w : World) (number : ℕ) (d : Deed) (front back : Text) → AllByRecursion ReplyLineTells (replies_to table failed w (record { number = number; deed = d } ∷ []))
-    → front ++ back ≡ text_of (replies_to table failed w (record { number = number; deed = d } ∷ []))
-    → HasNoFeed front ⊎ (front ≡ text_of (replies_to table failed w (record { number = number; deed = d } ∷ [])))
-front-of_reply table failed w number (deed.Tick n) [] back h is = inl refl
-front-of_reply table failed w number (deed.Tick n) (b ∷ front) back h is = let long : length (b ∷ (front ++ back)) ≡ 0 = ap length is in absurd (omega (arith, long))
-front-of_reply table failed w number (deed.Partition p c) front back h is =
-    let line = reply_line number (reply_of (call_outcome table failed w number p.0 c)) in
-    ⊎_elim (λ part. inl part) (λ all. inr (all ∙ sym (append-nil line)))
-    (front-of_line front back (reply_text number (reply_of (call_outcome table failed w number p.0 c))) (is ∙ append-nil line) h.0.no_feed)
 
 -- it tells the failure of its read, if that failed
 line-failures : (reads : Type 0) (table : Rows) (w : World) (number : ℕ) (d : Deed) (more : List ℕ) (reply : Option Reply) → IsValid table w → AreFailures reads (record { number = number; deed = d }) reply more
@@ -141,7 +115,7 @@ module _ (table : Rows) (failed more : List ℕ) (lines : List Line) (k : ℕ) (
   own = failures_elsewhere table (failed ++ more) more here (line ∷ [])
       (list_any-append (λ n. n == line.number) failed more ∙ ap (λ b. b || is_among more line.number) not-yet, tt)
 
-  replies-more : replies_to table (failed ++ more) w (take (k + 1) lines) ≡ replies_to table failed w (take k lines) ++ replies_to table more here (line ∷ [])
+  pub replies-more : replies_to table (failed ++ more) w (take (k + 1) lines) ≡ replies_to table failed w (take k lines) ++ replies_to table more here (line ∷ [])
   replies-more =
       ap (replies_to table (failed ++ more) w) (take-line lines k line at)
       ∙ replies-append table (failed ++ more) w (take k lines) (line ∷ [])

@@ -9,7 +9,7 @@ use Rattle.std.proofs.lemmas.List.Folds.{list_all-append}
 use Rattle.std.proofs.lemmas.List.Sums.{sum_by-append}
 use Rattle.apex_types.specs.declared.codes.Errno.TheVariants.{Eio}
 use Rattle.apex_model.specs.Outcomes.{refusal}
-use Rattle.apex_model.specs.Run.{Told, text_of}
+use Rattle.apex_model.specs.Run.{Told, text_of, fault_line}
 use Rattle.apex_model.specs.Texts.{Text}
 use Rattle.apex_model.specs.ToldText.{whole_lines, number_of_line, is_failed_line, is_fault_line, fault_text, failed_in, replies_in, HasNoFeed}
 use Rattle.apex_model.proofs.AcceptedTables.{and-left, and-right}
@@ -74,7 +74,7 @@ module _ (told more : Text) (failed : List ℕ) (n : ℕ) (whole : IsWhole told)
       let none = no_whole_line more one in
       says-more (ap (λ (ts : List Text). map number_of_line (filter is_failed_line ts)) none) (ap (count_by (λ (line : Text). not (is_fault_line line))) none)
 
-pub fault-no_feed : (number : ℕ) → HasNoFeed (fault_text number)
+fault-no_feed : (number : ℕ) → HasNoFeed (fault_text number)
 fault-no_feed number =
     let test : ℕ → Bool = λ b. not (b == 10) in
     let digits : list_all test (decimal number) ≡ true =
@@ -83,7 +83,7 @@ fault-no_feed number =
     list_all-append test (decimal number) (codes " NOT_AVAILABLE EIO HALTED") ∙ ap (λ b. b && true) digits
 
 -- the line that ends a run
-pub says-fault : (told : Text) (failed : List ℕ) (n number : ℕ) → number ≤ 20000 → IsWhole told → Says failed n told → Says failed n (told ++ (fault_text number ++ 10 ∷ []))
+says-fault : (told : Text) (failed : List ℕ) (n number : ℕ) → number ≤ 20000 → IsWhole told → Says failed n told → Says failed n (told ++ (fault_text number ++ 10 ∷ []))
 says-fault told failed n number few whole says =
     let text = fault_text number in
     let tells = lines_tell number few in
@@ -104,3 +104,10 @@ front-of_line (b ∷ front) back (c ∷ text) is one =
     let other : IsTrue (not (b == 10)) = subst (λ n. IsTrue (not (n == 10))) (sym same) (and-left (not (c == 10)) (list_all (λ x. not (x == 10)) text) one) in
     ⊎_elim (λ none. inl (both_true other none)) (λ all. inr (ap (λ n. n ∷ front) same ∙ ap (λ (xs : List ℕ). c ∷ xs) all))
     (front-of_line front back text rest (and-right (not (c == 10)) (list_all (λ x. not (x == 10)) text) one))
+
+-- a front of the line that ends a run tells no reply
+pub says-front_of_fault : (told : Text) (failed : List ℕ) (n number : ℕ) → number ≤ 20000 → IsWhole told → Says failed n told → (front back : Text) → front ++ back ≡ fault_line number → Says failed n (told ++ front)
+says-front_of_fault told failed n number few whole says front back is =
+    ⊎_elim (λ part. says-part told front failed n whole says part)
+    (λ all. subst (λ (t : Text). Says failed n (told ++ t)) (sym all) (says-fault told failed n number few whole says))
+    (front-of_line front back (fault_text number) is (fault-no_feed number))

@@ -11,7 +11,7 @@ use Rattle.apex_model.specs.Durable.{Durable, IsCut, IsCutDuring}
 use Rattle.apex_model.specs.FailedReads.{is_among, world_after_line}
 use Rattle.apex_model.specs.Laws.{StepKeepsValid}
 use Rattle.apex_model.specs.Lines.{IsLineOf}
-use Rattle.apex_model.specs.Run.{fault_line, world_after_all}
+use Rattle.apex_model.specs.Run.{fault_line, replies_to, text_of, world_after_all}
 use Rattle.apex_model.specs.ToldText.{fault_text}
 use Rattle.apex_model.specs.Validity.{IsValid}
 use Rattle.apex_model.specs.World.{World}
@@ -26,11 +26,13 @@ use Rattle.rig_core.specs.Outside.{Outside, AllNow, Sound, Later}
 use Rattle.rig_core.specs.Runs.{Runs, Shows}
 use Rattle.rig_core.proofs.Moments.{leaves_now, pairs_none, pairs_then}
 use Rattle.script_model.specs.Numbering.{AreNumbered}
-use Rattle.script_run.specs.Pairs.{IsPair}
+use Rattle.script_run.specs.Chosen.{told_to}
+use Rattle.script_run.specs.Pairs.{every_teller, IsPair}
 use Rattle.script_run.specs.Reached.{RoseBy, IsDue, LeavesRunPairs, Reached, FailsIn, Halts, replies_due, fault_due, StopsTelling}
 use Rattle.script_run.specs.Told.{told_line, TellsText}
-use Rattle.script_run.proofs.Moments.{Tells, tells-lines, says-left, silent-pairs, told-pairs, during-left, fault-left, reply-left}
-use Rattle.script_run.proofs.OneLine.{drop-line, own-text, none-or, world-more, text-more, failures-more}
+use Rattle.script_run.proofs.Choice.{own-text, all-told}
+use Rattle.script_run.proofs.Moments.{Tells, tells-all, says-left, silent-pairs, told-pairs, during-left, fault-left, reply-left, AnyFailed, pairs-of_all}
+use Rattle.script_run.proofs.OneLine.{drop-line, none-or, world-more, text-more, failures-more}
 use Rattle.script_run.proofs.Parts.{part-after, back-some, rose-after}
 use Rattle.script_run.proofs.Rising.{IsNoneOr, above, behind-line, higher-not}
 use Rattle.script_run.proofs.Worlds.{cut-as_begins, lines-valid}
@@ -84,12 +86,12 @@ AreSound tells_view keeps_cuts o m e = Sound tells_view keeps_cuts o × Sound te
 
 -- ---- before the first line
 
-none-ahead : (lines : List Line) → AllByRecursion (λ line. is_among [] line.number ≡ false) lines
+pub none-ahead : (lines : List Line) → AllByRecursion (λ line. is_among [] line.number ≡ false) lines
 none-ahead [] = tt
 none-ahead (line ∷ lines) = (refl, none-ahead lines)
 
 -- a session that is early for one number is so for each above it
-early-above : (n : ℕ) (session : Session) (lines : List Line) → IsEarly (n + 1) session → AllByRecursion (λ line. n < line.number) lines → AllByRecursion (λ line. IsEarly line.number session) lines
+pub early-above : (n : ℕ) (session : Session) (lines : List Line) → IsEarly (n + 1) session → AllByRecursion (λ line. n < line.number) lines → AllByRecursion (λ line. IsEarly line.number session) lines
 early-above n session [] early h = tt
 early-above n session (line ∷ lines) early h = (let a = h.0 in omega (arith, early, a), early-above n session lines early h.1)
 
@@ -127,7 +129,7 @@ reached-none {T} {V} {K} step lines first o sound ready early rise =
 
 -- ---- a line after the first k
 
-fault-some : (number : ℕ) → fault_line number ≢ []
+pub fault-some : (number : ℕ) → fault_line number ≢ []
 fault-some number = back-some (fault_text number) (10 ∷ []) (λ e. let w : ◌≡◌ {A = List ℕ} (10 ∷ []) [] = e in cc)
 
 -- The lines of a script for a table, of which the first k were carried out, and the one that is next.
@@ -148,26 +150,28 @@ module _ (T V K : Type 0) (table : Rows) (lines : List Line) (first : Session) (
   abbrev here : World → World
   here w = world_after_all table reached.failed w (take k lines)
 
-  tells-here : V → (w : World) → StandsFor V o first w → IsValid table w → Tells lines k reached.failed reached.due
+  tells-here : V → (w : World) → StandsFor V o first w → IsValid table w → Tells every_teller lines k reached.failed reached.due
   tells-here v w stands valid =
-      tells-lines is_at.law table reached.failed w lines k reached.due is_at.accepted valid is_at.are reached.is_due.within (reached.is_due.text v w stands) (reached.is_due.failures v w stands valid)
+      tells-all is_at.law table reached.failed w lines k reached.due is_at.accepted valid is_at.are reached.is_due.within (reached.is_due.text v w stands) (reached.is_due.failures v w stands valid)
 
   -- the device was called, and nothing was told
   pub step-pairs : (m2 : Outside) → Sound V K m → ShowsLine V table line session m m2 → LeavesRunPairs T V table lines first o m2
   step-pairs m2 sound moments = λ t v w stands valid.
       pairs_then (IsPair table w lines o.told) o m m2 (reached.pairs t v w stands valid)
-      (silent-pairs table w lines o.told reached.due (IsCutDuring table (here w) line.deed) m m2 sound (reached.told t)
-      (during-left is_at.step is_at.law table is_at.accepted w valid lines is_at.are k line is_at.at reached.failed reached.due (tells-here v w stands valid))
-      ((moments (here w) (reached.stands w stands)).any_moment v))
+      (pairs-of_all table w lines o.told m m2 t
+      (silent-pairs AnyFailed every_teller table w lines o.told reached.due (IsCutDuring table (here w) line.deed) m m2 sound reached.told
+      (during-left is_at.step is_at.law AnyFailed every_teller table is_at.accepted w valid lines is_at.are k line is_at.at reached.failed tt reached.due (tells-here v w stands valid))
+      ((moments (here w) (reached.stands w stands)).any_moment v)))
 
   -- the fault was told
   pub fault-pairs : (m2 e : Outside) → AreSound V K m m2 e → m2.told ≡ m.told → ShowsLine V table line session m m2 → TellsText T V (fault_line line.number) m2 e → LeavesRunPairs T V table lines first o e
   fault-pairs m2 e sound quiet moments tell = λ t v w stands valid.
       let P : Durable → Type 0 = IsCutDuring table (here w) line.deed in
       pairs_then (IsPair table w lines o.told) o m2 e (step-pairs m2 sound.0 moments t v w stands valid)
-      (told-pairs table w lines o.told reached.due P m2 e sound.1 (quiet ∙ reached.told t) (fault_line line.number) tell.later.clock tell.cuts
+      (pairs-of_all table w lines o.told m2 e t
+      (told-pairs AnyFailed every_teller table w lines o.told reached.due P m2 e sound.1 (λ u. quiet ∙ reached.told u) (fault_line line.number) tell.later.clock tell.cuts
       (leaves_now (Stores table P) m m2 sound.1 ((moments (here w) (reached.stands w stands)).any_moment v))
-      (fault-left is_at.step is_at.law table is_at.accepted w valid lines is_at.are k line is_at.at reached.failed reached.due (tells-here v w stands valid)))
+      (fault-left is_at.step is_at.law AnyFailed every_teller table is_at.accepted w valid lines is_at.are k line is_at.at reached.failed tt reached.due (tells-here v w stands valid))))
 
   -- what was due is due still, for the lines before this one
   due-still : (e : Outside) → m.read_faults ≤ e.read_faults → IsDue V table lines k first o e reached.failed reached.due
@@ -213,13 +217,16 @@ module _ (T V K : Type 0) (table : Rows) (lines : List Line) (first : Session) (
         let stands_next = steps.carried.stands (here w) (reached.stands w stands) in
         let all = (session_in_step V K m2 next there sound.1 steps.ready stands_next v).0 in
         let Q : Rows → Type 0 = λ r. AllNow (Stores r (IsCut there)) m2 in
-        let told : Tells lines (k + 1) all_failed text =
-        tells-lines is_at.law table all_failed w lines (k + 1) text is_at.accepted valid is_at.are due-more.within (due-more.text v w stands) (due-more.failures v w stands valid) in
+        let told : Tells every_teller lines (k + 1) all_failed text =
+        tells-all is_at.law table all_failed w lines (k + 1) text is_at.accepted valid is_at.are due-more.within (due-more.text v w stands) (due-more.failures v w stands valid) in
+        let own : told_line line.number reply ≡ text_of (told_to every_teller (replies_to table more (here w) (line ∷ []))) =
+        sym (own-text table more (here w) line reply (reply-is v w stands)) ∙ ap text_of (sym (all-told (replies_to table more (here w) (line ∷ [])))) in
         pairs_then (IsPair table w lines o.told) o m2 e (step-pairs m2 sound.0 moments t v w stands valid)
-        (told-pairs table w lines o.told reached.due (IsCut there) m2 e sound.1 (steps.quiet ∙ reached.told t) (told_line line.number reply) tell.later.clock tell.cuts
+        (pairs-of_all table w lines o.told m2 e t
+        (told-pairs AnyFailed every_teller table w lines o.told reached.due (IsCut there) m2 e sound.1 (λ u. steps.quiet ∙ reached.told u) (told_line line.number reply) tell.later.clock tell.cuts
         (subst Q steps.same_table all)
-        (reply-left is_at.step is_at.law table is_at.accepted w valid lines is_at.are k line is_at.at reached.failed reached.due (tells-here v w stands valid) more all_failed (told_line line.number reply)
-        (next-world w) (sym (own-text table more (here w) line reply (reply-is v w stands))) told))
+        (reply-left is_at.step is_at.law AnyFailed every_teller table is_at.accepted w valid lines is_at.are k line is_at.at reached.failed tt reached.due (tells-here v w stands valid) more all_failed tt
+        (told_line line.number reply) (next-world w) own told)))
 
     -- the lines to come have higher numbers
     higher : AllByRecursion (λ later. line.number < later.number) (drop (k + 1) lines)

@@ -1,3 +1,7 @@
+pub mod Chosen
+pub mod Heard
+pub mod OwnLines
 pub mod Pairs
 pub mod Reached
+pub mod Tally
 pub mod Told

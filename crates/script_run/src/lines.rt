@@ -26,7 +26,11 @@ pub enum LineStop {
 }
 
 // Tells the reply of a line of this number. A tick has none.
-fn tell_reply<R: Rig>(number: u32, reply: &Option<Reply>, rig: &mut R) -> Result<(), Failed>
+pub(crate) fn tell_reply<R: Rig>(
+    number: u32,
+    reply: &Option<Reply>,
+    rig: &mut R,
+) -> Result<(), Failed>
     requires few { number ≤ 20000 }
     requires tellable { ForSome reply.now IsTellable }
     ensures tells { TellsText R.tells_text R.tells_view (told_line number reply.now)
@@ -44,7 +48,7 @@ fn tell_reply<R: Rig>(number: u32, reply: &Option<Reply>, rig: &mut R) -> Result
 }
 
 // Tells that the device failed in a line of this number.
-fn tell_fault<R: Rig>(number: u32, rig: &mut R) -> LineStop
+pub(crate) fn tell_fault<R: Rig>(number: u32, rig: &mut R) -> LineStop
     requires few { number ≤ 20000 }
     ensures tells { TellsText R.tells_text R.tells_view (fault_line number)
         (R.state rig.old) (R.state rig.new) }
