@@ -40,7 +40,7 @@ fn call_of(line: &Line) -> Option<&Call> {
     }
 }
 
-fn logbook_call(line: &Line) -> Option<&LogbookCall> {
+pub fn logbook_call(line: &Line) -> Option<&LogbookCall> {
     match call_of(line) {
         Some(Call::Logbook(call)) => Some(call),
         _ => None,
@@ -68,7 +68,7 @@ fn sets_context(line: &Line, wanted: Context) -> bool {
     }
 }
 
-fn creates_logbook(call: Option<&LogbookCall>, wanted: &[u8]) -> bool {
+pub fn creates_logbook(call: Option<&LogbookCall>, wanted: &[u8]) -> bool {
     match call {
         Some(LogbookCall::Create { name }) => name.bytes() == wanted,
         _ => false,

@@ -1,4 +1,4 @@
-//! Tests of the readers of tables and scripts and of told lines, and of the tables in memory below the stores.
+//! Tests of the readers of tables and scripts, of drawn scripts and of told lines, and of the tables in memory below the stores.
 #![tactic(auto)]
 
 #[cfg(test)]
@@ -7,6 +7,8 @@ mod buffers;
 mod calls;
 #[cfg(test)]
 mod handles;
+#[cfg(test)]
+mod loads;
 #[cfg(test)]
 mod quotas;
 #[cfg(test)]

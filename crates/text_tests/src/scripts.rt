@@ -138,7 +138,7 @@ fn is_limit(alloc: Global, table: &Table, byte: u8, count: usize) -> bool
     }
 }
 
-fn is_tick(line: &Line, number: u32, ticks: u32) -> bool {
+pub fn is_tick(line: &Line, number: u32, ticks: u32) -> bool {
     match line.deed {
         Deed::Tick(found) => line.number == number && found == ticks,
         Deed::Partition { .. } => false,
@@ -146,7 +146,7 @@ fn is_tick(line: &Line, number: u32, ticks: u32) -> bool {
 }
 
 /// The file call of a line with this number, if it is one of this partition.
-fn file_call(line: &Line, number: u32, partition: u8) -> Option<&FileCall> {
+pub fn file_call(line: &Line, number: u32, partition: u8) -> Option<&FileCall> {
     match &line.deed {
         Deed::Partition {
             p,

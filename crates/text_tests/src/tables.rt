@@ -3,7 +3,7 @@ use config_table::{read_table, table_bytes};
 use std::alloc::Global;
 
 /// A display and a flight management partition with one tree, one logbook and one channel.
-const SMALL: &str = "partition = [{ name = \"FMS\" }, { name = \"DISP\" }]
+pub const SMALL: &str = "partition = [{ name = \"FMS\" }, { name = \"DISP\" }]
 volume = [{ name = \"NV1\", blocks = 8 }]
 tree = [{ volume = \"NV1\", owner = \"FMS\", readers = [\"DISP\"], quota = 8, files = 4, directories = 2, dirty = 16 }]
 logbook = [{ name = \"FAULTS\", partition = \"FMS\", message_size = 16, logged = 4, in_progress = 2 }]
