@@ -95,6 +95,13 @@ impl Session {
         self.failed
     }
 
+    /// The table that the session was started with, also after a fault. What it holds else is dropped, and nothing is written.
+    pub fn finish(self) -> Table
+        ensures { result ≡ table_of_session self }
+    {
+        self.table
+    }
+
     /// Carries out a call of files, in a partition that is ready for one or not.
     fn file<R: Rig>(
         &mut self,

@@ -1,0 +1,57 @@
+// A script carried out until the power fails.
+ghost use Rattle.std.specs.Prelude.{◌≡◌, false, IfOk};
+ghost use Rattle.std.specs.List.{AllByRecursion};
+ghost use Rattle.apex_model.specs.Accepted.{IsAccepted};
+ghost use Rattle.apex_model.specs.Lines.{IsLineOf};
+ghost use Rattle.rig_core.specs.FuseRig.{fuse_state, is_fuse_starved};
+ghost use Rattle.recover_scan.specs.Format.{IsFormatted};
+ghost use Rattle.rig_core.specs.Outside.{AllNow};
+ghost use Rattle.power_sweep.specs.Cuts.{IsLeftImage};
+
+use apex_types::{ByteList, OutOfMemory, Table};
+use call_script::Script;
+use image_mount::mount;
+use module_session::Session;
+use rig_core::FuseRig;
+use script_run::carry_out_for;
+use std::alloc::Global;
+
+/// What is there after a run whose power failed, or whose lines came to their end.
+#[derive(Drop)]
+pub(crate) struct FusedRun {
+    /// The table, for the next run.
+    pub table: Table,
+    /// The device, of which a cut takes what it may leave now.
+    pub rig: FuseRig,
+}
+
+/// Mounts an empty image and carries out a script on it. The power fails after so many writes and syncs. Where the
+/// device's record can't grow, no run is given.
+pub(crate) fn fused_run(
+    alloc: Global,
+    table: Table,
+    script: &Script,
+    image: &ByteList,
+    calls: u64,
+) -> Result<FusedRun, OutOfMemory>
+    requires accepted { IsAccepted table }
+    requires of_table { AllByRecursion (IsLineOf table) script.now }
+    requires empty { IsFormatted table image.now }
+    ensures table { IfOk result (λ run. run.table ≡ table) }
+    ensures fed { IfOk result (λ run. is_fuse_starved run.rig ≡ false) }
+    ensures cuts { IfOk result (λ run. AllNow (IsLeftImage table script.now)
+        (fuse_state run.rig)) }
+{
+    let mut rig = FuseRig::new(alloc, image.copy()?, calls)?;
+    let Ok(store) = mount(alloc, &table, &mut rig) else {
+        return Err(OutOfMemory);
+    };
+    let mut session = Session::start(alloc, table, store, &rig)?;
+    // Behind the last line, or where the power failed: both are runs to be cut.
+    let _ended = carry_out_for(&mut session, script, None, &mut rig);
+    if rig.starved() {
+        return Err(OutOfMemory);
+    }
+    let table = session.finish();
+    Ok(FusedRun { table, rig })
+}
