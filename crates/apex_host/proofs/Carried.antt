@@ -22,7 +22,7 @@ use Rattle.script_run.specs.Pairs.{IsPair}
 use Rattle.script_run.specs.Reached.{IsDue, Reached, Halts, IsDueAtStop, replies_due, fault_due, StopsTelling, LeavesRunPairs}
 use Rattle.script_run.proofs.OneLine.{text-front}
 use Rattle.apex_host.specs.Disk.{LeavesDisk, ran, run_failed, BeginsRun, LeavesRun, HoldsRun}
-use Rattle.apex_host.specs.Endings.{IsTableOf, GaveTable, GaveScript, seen, EndsSo, IsRunText}
+use Rattle.apex_host.specs.Endings.{IsTableOf, GaveTable, GaveScript, seen, EndsSo, IsRunText, StandsForOne}
 use Rattle.apex_host.specs.Opening.{StartsFrom}
 use Rattle.apex_host.specs.Told.{run_text, TellsPart}
 use Rattle.apex_host.specs.declared.command.Command.TheVariants.{Run}
@@ -31,11 +31,11 @@ use Rattle.apex_host.proofs.Cuts.{rose-after, few-earlier, front-some}
 use Rattle.apex_host.proofs.Disks.{pairs-after-reads}
 use Rattle.apex_host.proofs.Endings.{ends-run, ends-cut, ends-fault, ends-fault-cut}
 
-ok-ok : {X E : Type 0} {x y : X} → ◌≡◌ {A = Result X E} (Ok x) (Ok y) → x ≡ y
+pub ok-ok : {X E : Type 0} {x y : X} → ◌≡◌ {A = Result X E} (Ok x) (Ok y) → x ≡ y
 ok-ok w = cc
 
 -- the state of an image, or the empty one where it stands for none
-abbrev state-or_empty : Rows → Result Durable Refusal → Durable
+abbrev pub state-or_empty : Rows → Result Durable Refusal → Durable
 state-or_empty rows (Ok stored) = stored
 state-or_empty rows (Err r) = empty_durable rows
 
@@ -47,7 +47,7 @@ module _ {V : Type 0} (o m e : Outside) (reads : OnlyReads V o m) where
       (λ r. inl (rose-after o.write_faults m.write_faults e.write_faults reads.later.write_faults r))
       (λ r. inr (r.0, rose-after o.read_faults m.read_faults e.read_faults reads.later.read_faults r.1)) cause
 
-  part-since : {T : Type 0} {due : List ℕ} (back : List ℕ) → due ≢ [] → Rose m.tell_faults e.tell_faults → (T → IsToldPart due m.told e.told) → TellsPart T (due ++ back) o e
+  pub part-since : {T : Type 0} {due : List ℕ} (back : List ℕ) → due ≢ [] → Rose m.tell_faults e.tell_faults → (T → IsToldPart due m.told e.told) → TellsPart T (due ++ back) o e
   part-since {T} {due} back some rose part = record {
     something = front-some due back some;
     rose = rose-after o.tell_faults m.tell_faults e.tell_faults reads.later.tell_faults rose;
@@ -64,7 +64,7 @@ module _ {V : Type 0} (rows : Rows) (lines : List Line) (o m e : Outside) (reads
     due-text {k} {failed} {due} is = record {
       failed = failed;
       few = few-earlier (length failed) o.read_faults m.read_faults e.read_faults reads.later.read_faults is.few;
-      of_image = λ v. let begun = starts v in (begun.stored, begun.image, is.text v (start rows begun.stored) begun.stands);
+      of_image = λ v. let begun = starts v in record { stored = begun.stored; image = begun.image; valid = begun.valid; holds = is.text v (start rows begun.stored) begun.stands };
     }
 
     all-text : {failed due : List ℕ} → IsDue V rows lines (length lines) first m e failed due → IsRunText V rows lines (seen t f s g o) (seen t' f' s' g' e) due
@@ -83,7 +83,7 @@ module _ {V : Type 0} (rows : Rows) (lines : List Line) (o m e : Outside) (reads
                 let begun = starts v in
                 let same : from ≡ begun.stored = ap (state-or_empty rows) begun.image in
                 let told = is.text v (start rows begun.stored) begun.stands ∙ ap (λ (d : Durable). text_of (replies_to rows failed (start rows d) (take k lines))) (sym same) in
-                (begun.stored, begun.image, ap (λ (x : List ℕ). x ++ front.0) told ∙ front.1 ∙ ap (λ (d : Durable). run_text rows failed (start rows d) lines) same);
+                record { stored = begun.stored; image = begun.image; valid = begun.valid; holds = ap (λ (x : List ℕ). x ++ front.0) told ∙ front.1 ∙ ap (λ (d : Durable). run_text rows failed (start rows d) lines) same };
           },
         )
 

@@ -7,11 +7,11 @@ use Rattle.rig_core.proofs.Moments.{pairs_none, pairs_then, pairs_weaker, leaves
 use Rattle.apex_types.specs.Rows.{Rows}
 use Rattle.recover_scan.specs.Format.{OldOrFormatted, KeepsRest}
 use Rattle.recover_scan.proofs.Changes.{later_same, later_then}
-use Rattle.apex_host.specs.Disk.{WasLeft, OnlyTells, IsUntouched, IsMomentOfFormat, FormatsDisk, HoldsEmpty, IsEmptied, BeginsFormat, MakesEmpty, LeavesDisk, untouched, formatted, format_failed}
+use Rattle.apex_host.specs.Disk.{WasLeft, OnlyTells, IsUntouched, IsMomentOfFormat, FormatsDisk, HoldsEmpty, IsEmptied, BeginsFormat, MakesEmpty, LeavesDisk, untouched, checked, formatted, format_failed}
 use Rattle.apex_host.specs.Endings.{IsTableOf}
 use Rattle.apex_host.specs.Told.{IsTold}
 use Rattle.apex_host.specs.declared.command.Command.{Command}
-use Rattle.apex_host.specs.declared.command.Command.TheVariants.{Format}
+use Rattle.apex_host.specs.declared.command.Command.TheVariants.{Format, Check}
 use Rattle.apex_host.specs.declared.status.Status.{Status}
 use Rattle.apex_host.specs.declared.status.Status.TheVariants.{Done, DeviceFault, ReplyFault}
 
@@ -92,6 +92,12 @@ module _ {T V : Type 0} {table script : Option (List ℕ)} (command : Option Com
   -- a status that isn't Done is told, or that telling it failed
   pub refusal-leaves : IsTold T line status m e result → status ≢ Done → IsUntouched V o e → LeavesDisk T V table script o e command result
   refusal-leaves told undone is = untouched command result (λ done. ⊎_elim (λ all. undone (sym all.0 ∙ done)) (λ part. let w : ReplyFault ≡ Done = sym part.0 ∙ done in cc) told) is
+
+-- a check is done, or telling that it was good failed
+pub check-leaves : {T V : Type 0} {table script : Option (List ℕ)} {result : Status} {line : List ℕ} (o m e : Outside) → IsTold T line Done m e result → IsUntouched V o e → LeavesDisk T V table script o e (Some Check) result
+check-leaves {T} {V} {table} {script} {result} o m e told is =
+    let P : Status → Type 0 = λ r. LeavesDisk T V table script o e (Some Check) r in
+    ⊎_elim (λ all. subst P (sym all.0) (checked is)) (λ part. subst P (sym part.0) (untouched (Some Check) ReplyFault (λ done. cc) is)) told
 
 -- ---- a line that is told after a format
 

@@ -1,6 +1,6 @@
 -- How a command ends, step by step.
 use Rattle.std.proofs.Common.{◌≡◌, ℕ, ◌<◌, ◌≤◌, ◌⊎◌, inl, inr, ⊎_elim, List, [], ◌++◌, Option, Some, None, refl, sym, ◌∙◌, ap, subst, arith}
-use Rattle.std.specs.Prelude.{length, take, slice_get, Result, Ok, Err}
+use Rattle.std.specs.Prelude.{length, take, slice_get, Result, Ok, Err, ⊤}
 use Rattle.std.proofs.lemmas.Bool.{cases_lt}
 use Rattle.apex_types.specs.Rows.{Rows}
 use Rattle.apex_types.specs.declared.calls.Line.{Line}
@@ -9,27 +9,38 @@ use Rattle.rig_core.specs.Outside.{Outside, Later}
 use Rattle.apex_model.specs.Layout.{layout_blocks}
 use Rattle.recover_scan.specs.declared.errors.FormatError.{FormatError}
 use Rattle.recover_scan.specs.declared.errors.FormatError.TheVariants as format
+use Rattle.script_model.specs.Reading.{partition_at}
 use Rattle.call_script.specs.Errors.{refusal_of}
 use Rattle.apex_model.specs.Image.{too_small}
 use Rattle.apex_model.specs.Run.{fault_line}
-use Rattle.apex_host.specs.Endings.{Seen, seen, image_bytes, IsRunText, LineFailed, Ends, usage, table_fault, table_refused, starved, too_small_to_format, format_fault, formatted, script_fault, script_refused, image_refused, mount_fault, fault_in_line, ran, EndsSo, GaveTable, GaveScript}
+use Rattle.apex_host.specs.Endings.{Seen, seen, image_bytes, IsRunText, LineFailed, Ends, StandsForOne, ReadsFor, OpensImage, IsNamed, IsOwn, IsHeardText, DeviceFailed, usage, table_fault, table_refused, starved, too_small_to_format, format_fault, formatted, unknown_partition, script_fault, script_refused, image_refused, mount_fault, checked, fault_in_line, ran, fault_in_own_line, heard, EndsSo, GaveTable, GaveScript}
 use Rattle.apex_host.specs.Stops.{told_with, StopsTable, StopsScript, StopsMount, Owes}
-use Rattle.apex_host.specs.Told.{TellsPart, IsTold, usage_line, formatted_line, image_refused_line, mount_fault_line, format_fault_line}
+use Rattle.apex_host.specs.Told.{TellsPart, IsTold, usage_line, formatted_line, good_line, unknown_partition_line, image_refused_line, mount_fault_line, format_fault_line}
 use Rattle.apex_host.specs.declared.command.Command.{Command}
-use Rattle.apex_host.specs.declared.command.Command.TheVariants.{Format, Run}
+use Rattle.apex_host.specs.declared.command.Command.TheVariants.{Format, Run, Only, Check}
 use Rattle.apex_host.specs.declared.status.Status.{Status}
-use Rattle.apex_host.specs.declared.status.Status.TheVariants.{Done, Usage, ImageRefused, DeviceFault, ReplyFault, OutOfMemory}
+use Rattle.apex_host.specs.declared.status.Status.TheVariants.{Done, Usage, ImageRefused, CommandRefused, DeviceFault, ReplyFault, OutOfMemory}
 use Rattle.apex_host.specs.declared.stops.Stop.{Stop}
 use Rattle.apex_host.proofs.Cuts.{rose-before, rose-after, few-later}
 
 -- ---- a line that is told at the end
 
-module _ (m e : Outside) (later : Later m e) (n : ℕ) where
-  read-later : Rose n m.read_faults → Rose n e.read_faults
-  read-later rose = rose-before n m.read_faults e.read_faults rose later.read_faults
+module _ (m e : Outside) (later : Later m e) where
+  read-later : (n : ℕ) → Rose n m.read_faults → Rose n e.read_faults
+  read-later n rose = rose-before n m.read_faults e.read_faults rose later.read_faults
 
-  write-later : Rose n m.write_faults → Rose n e.write_faults
-  write-later rose = rose-before n m.write_faults e.write_faults rose later.write_faults
+  write-later : (n : ℕ) → Rose n m.write_faults → Rose n e.write_faults
+  write-later n rose = rose-before n m.write_faults e.write_faults rose later.write_faults
+
+  device-later : (old : Seen) (t s : Option (List ℕ)) (f g : ℕ) → DeviceFailed old (seen t f s g m) → DeviceFailed old (seen t f s g e)
+  device-later old t s f g rose = ⊎_elim (λ r. inl (read-later old.read_faults r)) (λ r. inr (write-later old.write_faults r)) rose
+
+-- what a command was given stays given
+input-later : (old : Seen) (t s : Option (List ℕ)) (f g : ℕ) (m e : Outside) (rows : Rows) (c : Command) → OpensImage old (seen t f s g m) rows c → OpensImage old (seen t f s g e) rows c
+input-later old t s f g m e rows Format none = absurd none
+input-later old t s f g m e rows Run has = has
+input-later old t s f g m e rows (Only name) has = has
+input-later old t s f g m e rows Check has = has
 
 module _ {V : Type 0} {old : Seen} (t s : Option (List ℕ)) (f g : ℕ) (m e : Outside) where
   -- it leaves the reason as it is
@@ -42,15 +53,19 @@ module _ {V : Type 0} {old : Seen} (t s : Option (List ℕ)) (f g : ℕ) (m e : 
     ends-later (table_fault c rose) = table_fault c rose
     ends-later (table_refused c error is) = table_refused c error is
     ends-later (too_small_to_format rows gave small) = too_small_to_format rows gave small
-    ends-later (format_fault rows gave room rose) = format_fault rows gave room (⊎_elim (λ r. inl (read-later m e later old.read_faults r)) (λ r. inr (write-later m e later old.write_faults r)) rose)
+    ends-later (format_fault rows gave room rose) = format_fault rows gave room (device-later m e later old t s f g rose)
     ends-later (formatted rows gave room) = formatted rows gave room
-    ends-later (script_fault rows gave rose) = script_fault rows gave rose
-    ends-later (script_refused rows r gave is) = script_refused rows r gave is
-    ends-later (image_refused rows lines r gave read is) = image_refused rows lines r gave read is
-    ends-later (mount_fault rows lines gave read rose) = mount_fault rows lines gave read (read-later m e later old.read_faults rose)
+    ends-later (unknown_partition name rows gave none) = unknown_partition name rows gave none
+    ends-later (script_fault c rows gave reads rose) = script_fault c rows gave reads rose
+    ends-later (script_refused c rows r gave reads is) = script_refused c rows r gave reads is
+    ends-later (image_refused c rows r gave has is) = image_refused c rows r gave (input-later old t s f g m e rows c has) is
+    ends-later (mount_fault c rows gave has rose) = mount_fault c rows gave (input-later old t s f g m e rows c has) (read-later m e later old.read_faults rose)
+    ends-later (checked rows gave is) = checked rows gave is
     ends-later (fault_in_line rows lines k line text gave read at is cause) =
         fault_in_line rows lines k line text gave read at (text-later is) (⊎_elim (λ r. inl (write-later m e later old.write_faults r)) (λ r. inr (r.0, read-later m e later old.read_faults r.1)) cause)
     ends-later (ran rows lines text gave read is) = ran rows lines text gave read (text-later is)
+    ends-later (fault_in_own_line name rows p lines k line text gave named read at own is cause) = fault_in_own_line name rows p lines k line text gave named read at own is (λ v. device-later m e later old t s f g (cause v))
+    ends-later (heard name rows p lines text gave named read is) = heard name rows p lines text gave named read is
     ends-later (starved c) = starved c
 
   -- where memory ran out nothing is due
@@ -90,10 +105,18 @@ module _ {T V : Type 0} (o : Outside) where
   no-table c (StopsTable.fault rose) = record { reason = table_fault c rose; told = λ v. refl; sources_first = (inr (refl, refl), inl refl) }
   no-table c (StopsTable.starved quiet) = record { reason = starved c; told = λ v. refl; sources_first = (inl quiet, inl refl) }
 
-  pub no-script : {t t' s s' : Option (List ℕ)} {f f' g g' : ℕ} {stop : Stop} (rows : Rows) → GaveTable t t' rows → f' ≡ f → StopsScript rows s g g' stop → Owes T V (Some Run) (seen t f s g o) (seen t' f' s' g' o) stop
-  no-script rows gave q (StopsScript.refused error quiet is) = record { reason = script_refused rows (refusal_of error) gave is; told = λ v. refl; sources_first = (inl q, inl quiet) }
-  no-script rows gave q (StopsScript.fault rose) = record { reason = script_fault rows gave rose; told = λ v. refl; sources_first = (inl q, inr (refl, refl)) }
-  no-script rows gave q (StopsScript.starved quiet) = record { reason = starved Run; told = λ v. refl; sources_first = (inl q, inl quiet) }
+  -- a partition that the table hasn't got
+  pub no-partition : {t t' s : Option (List ℕ)} {f f' g : ℕ} {stop : Stop} (name : List ℕ) (rows : Rows) → GaveTable t t' rows → f' ≡ f → partition_at rows name ≡ None → stop ≡ told_with CommandRefused unknown_partition_line
+      → Owes T V (Some (Only name)) (seen t f s g o) (seen t' f' s g o) stop
+  no-partition {t} {t'} {s} {f} {f'} {g} name rows gave q none is =
+      let P : Stop → Type 0 = λ x. Owes T V (Some (Only name)) (seen t f s g o) (seen t' f' s g o) x in
+      subst P (sym is) (record { reason = unknown_partition name rows gave none; told = λ v. refl; sources_first = (inl q, inl refl) })
+
+  pub no-script : {t t' s s' : Option (List ℕ)} {f f' g g' : ℕ} {stop : Stop} (c : Command) (rows : Rows) → GaveTable t t' rows → ReadsFor rows c → f' ≡ f → StopsScript rows s g g' stop
+      → Owes T V (Some c) (seen t f s g o) (seen t' f' s' g' o) stop
+  no-script c rows gave reads q (StopsScript.refused error quiet is) = record { reason = script_refused c rows (refusal_of error) gave reads is; told = λ v. refl; sources_first = (inl q, inl quiet) }
+  no-script c rows gave reads q (StopsScript.fault rose) = record { reason = script_fault c rows gave reads rose; told = λ v. refl; sources_first = (inl q, inr (refl, refl)) }
+  no-script c rows gave reads q (StopsScript.starved quiet) = record { reason = starved c; told = λ v. refl; sources_first = (inl q, inl quiet) }
 
 -- ---- a device is large enough, or not
 
@@ -132,13 +155,19 @@ module _ {T V : Type 0} {t t' s s' : Option (List ℕ)} {f f' g g' : ℕ} (o e :
       let P : Stop → Type 0 = λ x. Owes T V (Some c) (seen t f s g o) (seen t' f' s' g' e) x in
       subst P (sym is) (owes-line {end = told_with OutOfMemory []} same (starved c))
 
+  -- an image that is not opened
+  pub no-image : {stop : Stop} (c : Command) (rows : Rows) → GaveTable t t' rows → OpensImage (seen t f s g o) (seen t' f' s' g' e) rows c → e.told ≡ o.told → StopsMount V rows o e stop
+      → Owes T V (Some c) (seen t f s g o) (seen t' f' s' g' e) stop
+  no-image c rows gave has same (StopsMount.refused r is) = owes-line {end = told_with ImageRefused (image_refused_line r)} same (image_refused c rows r gave has is)
+  no-image c rows gave has same (StopsMount.fault rose) = owes-line {end = told_with DeviceFault mount_fault_line} same (mount_fault c rows gave has rose)
+  no-image c rows gave has same StopsMount.starved = owes-line {end = told_with OutOfMemory []} same (starved c)
+
+  -- an image that is good
+  pub owes-good : (rows : Rows) → GaveTable t t' rows → (V → StandsForOne rows o.view (λ stored. ⊤)) → e.told ≡ o.told → Owes T V (Some Check) (seen t f s g o) (seen t' f' s' g' e) (told_with Done (good_line rows))
+  owes-good rows gave is same = owes-line {end = told_with Done (good_line rows)} same (checked rows gave is)
+
   -- a run
   module _ (rows : Rows) (lines : List Line) (gave : GaveTable t t' rows) (read : GaveScript s s' rows lines) where
-    pub no-image : {stop : Stop} → e.told ≡ o.told → StopsMount V rows o e stop → Owes T V (Some Run) (seen t f s g o) (seen t' f' s' g' e) stop
-    no-image same (StopsMount.refused r is) = owes-line {end = told_with ImageRefused (image_refused_line r)} same (image_refused rows lines r gave read is)
-    no-image same (StopsMount.fault rose) = owes-line {end = told_with DeviceFault mount_fault_line} same (mount_fault rows lines gave read rose)
-    no-image same StopsMount.starved = owes-line {end = told_with OutOfMemory []} same (starved Run)
-
     -- all lines were told
     pub ends-run : {text : List ℕ} → IsRunText V rows lines (seen t f s g o) (seen t' f' s' g' e) text → (T → e.told ≡ o.told ++ text) → EndsSo T V (Some Run) (seen t f s g o) (seen t' f' s' g' e) Done
     ends-run {text} is told = record { status = Done; due = text; reason = ran rows lines text gave read is; told = inl (refl, told); sources_first = (inl quiet, inl still) }

@@ -1,3 +1,4 @@
+pub mod Apart
 pub mod Bounds
 pub mod Carried
 pub mod Cuts
@@ -5,5 +6,7 @@ pub mod Disks
 pub mod EndLaws
 pub mod Endings
 pub mod EntryLaws
+pub mod Heard
+pub mod Opened
 pub mod SourceReads
 pub mod StopLaws

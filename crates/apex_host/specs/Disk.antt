@@ -1,22 +1,26 @@
 -- What a command does to the disk.
-use Rattle.std.specs.Prelude.{◌≡◌, ◌≢◌, ◌⊎◌, ◌++◌, ◌≤◌, ℕ, List, Option, Some, Ok}
+use Rattle.std.specs.Prelude.{◌≡◌, ◌≢◌, ◌⊎◌, ◌++◌, ◌≤◌, ◌==◌, ℕ, List, [], Option, Some, Ok}
 use Rattle.std.specs.Option.{ForSome}
 use Rattle.apex_types.specs.Rows.{Rows}
 use Rattle.apex_types.specs.declared.calls.Line.{Line}
 use Rattle.apex_model.specs.Durable.{Durable, start, IsCut}
 use Rattle.apex_model.specs.Image.{state_of}
+use Rattle.apex_model.specs.Isolation.{own_lines}
+use Rattle.apex_model.specs.Moments.{IsLeft}
 use Rattle.apex_model.specs.Run.{world_after_all}
+use Rattle.apex_model.specs.ToldText.{replies_in}
 use Rattle.apex_model.specs.Validity.{IsValid}
+use Rattle.apex_model.specs.World.{World}
 use Rattle.rig_core.specs.Leaves.{LeavesPairs}
 use Rattle.rig_core.specs.Outside.{Outside, Now, AllNow, Later}
 use Rattle.recover_scan.specs.Format.{OldOrFormatted, KeepsRest, IsFormatted, IsWholeEmpty}
 use Rattle.script_model.specs.Script.{script_of}
 use Rattle.image_layout.specs.Ready.{Stores}
 use Rattle.script_run.specs.Pairs.{IsPair}
-use Rattle.apex_host.specs.Endings.{IsTableOf}
+use Rattle.apex_host.specs.Endings.{IsTableOf, IsNamed}
 use Rattle.apex_host.specs.Told.{run_text}
 use Rattle.apex_host.specs.declared.command.Command.{Command}
-use Rattle.apex_host.specs.declared.command.Command.TheVariants.{Format, Run}
+use Rattle.apex_host.specs.declared.command.Command.TheVariants.{Format, Run, Only, Check}
 use Rattle.apex_host.specs.declared.status.Status.{Status}
 use Rattle.apex_host.specs.declared.status.Status.TheVariants.{Done, DeviceFault, ReplyFault}
 
@@ -121,6 +125,49 @@ RunsSafely rows lines stored old new = LeavesPairs
     (λ image told. (image ≡ old.view) ⊎ IsPair rows (start rows stored) lines old.told image told)
     old new
 
+-- ---- the lines of one partition's upstream
+
+-- A cut may leave this image when so many replies to a partition were told since the lines of its
+-- upstream were begun, in which no read failed.
+pub record IsHeardPair (rows : Rows) (p : ℕ) (w : World) (lines : List Line)
+    (before image told : List ℕ) : Type 0 where
+  pub more : List ℕ
+  pub told_is : told ≡ before ++ more
+  pub stores : Stores rows
+      (IsLeft rows [] w (own_lines rows p lines) (λ q. q == p) (replies_in more)) image
+
+-- Where the rig tells its bytes and its text, each image that a cut leaves has this beside the text,
+-- for the state that the image stood for.
+abbrev pub LeavesFrom : Type 0 → Type 0 → Rows → (Durable → List ℕ → List ℕ → Type 0) → Outside
+    → Outside → Type 0
+LeavesFrom tells_text tells_view rows P old new = tells_text → tells_view
+    → (stored : Durable) → state_of rows old.view ≡ Ok stored → LeavesPairs (P stored) old new
+
+-- The lines of a script that are of the upstream of the partition of this name have begun.
+pub record BeginsOnly (tells_text tells_view : Type 0) (name : List ℕ)
+    (table script : Option (List ℕ)) (old new : Outside) : Type 0 where
+  pub rows : Rows
+  pub p : ℕ
+  pub lines : List Line
+  pub spelled : IsTableOf table rows
+  pub named : IsNamed rows name p
+  pub read : ForSome script (λ bytes. script_of rows bytes ≡ Ok lines)
+  pub pairs : LeavesFrom tells_text tells_view rows
+      (λ stored. IsHeardPair rows p (start rows stored) lines old.told) old new
+
+-- What a cut leaves now, and what reads give, stands for what a cut leaves of a world.
+pub record HoldsCutOf (rows : Rows) (w : World) (new : Outside) : Type 0 where
+  pub images : AllNow (Stores rows (IsCut w)) new
+  pub view : Stores rows (IsCut w) new.view
+
+-- They have come to their end.
+pub record CompletesOnly (tells_text tells_view : Type 0) (name : List ℕ)
+    (table script : Option (List ℕ)) (old new : Outside) : Type 0 where
+  pub begins : BeginsOnly tells_text tells_view name table script old new
+  pub holds : tells_view → (stored : Durable) → state_of begins.rows old.view ≡ Ok stored
+      → HoldsCutOf begins.rows (world_after_all begins.rows [] (start begins.rows stored)
+      (own_lines begins.rows begins.p begins.lines)) new
+
 -- ---- any command
 
 -- What a command does to the disk, by how it ends.
@@ -140,6 +187,16 @@ pub data LeavesDisk (tells_text tells_view : Type 0) (table script : Option (Lis
   run_failed : (status : Status) → (status ≡ DeviceFault) ⊎ (status ≡ ReplyFault)
       → BeginsRun tells_text tells_view table script old new
       → LeavesDisk tells_text tells_view table script old new (Some Run) status
+  -- The lines of one partition's upstream, at their end or after such a fault.
+  heard : (name : List ℕ) → CompletesOnly tells_text tells_view name table script old new
+      → LeavesDisk tells_text tells_view table script old new (Some (Only name)) Done
+  hearing_failed : (name : List ℕ) (status : Status)
+      → (status ≡ DeviceFault) ⊎ (status ≡ ReplyFault)
+      → BeginsOnly tells_text tells_view name table script old new
+      → LeavesDisk tells_text tells_view table script old new (Some (Only name)) status
+  -- A check leaves the disk untouched.
+  checked : IsUntouched tells_view old new
+      → LeavesDisk tells_text tells_view table script old new (Some Check) Done
   -- All else leaves the disk untouched.
   untouched : (command : Option Command) (status : Status) → status ≢ Done
       → IsUntouched tells_view old new

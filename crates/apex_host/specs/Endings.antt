@@ -1,26 +1,29 @@
 -- How each command ends.
-use Rattle.std.specs.Prelude.{◌≡◌, ◌≢◌, ◌⊎◌, ◌++◌, ◌*◌, ◌<◌, ◌≤◌, ℕ, List, [], length, take, slice_get, Option, Some, None, Ok, Err}
+use Rattle.std.specs.Prelude.{◌≡◌, ◌≢◌, ◌⊎◌, ◌++◌, ◌*◌, ◌<◌, ◌≤◌, ℕ, List, [], length, take, slice_get, Option, Some, None, Ok, Err, IsTrue, ⊤}
 use Rattle.std.specs.Option.{ForSome}
 use Rattle.apex_types.specs.Rows.{Rows}
 use Rattle.apex_types.specs.declared.calls.Line.{Line}
 use Rattle.apex_model.specs.Accepted.{IsAccepted}
 use Rattle.apex_model.specs.Durable.{Durable, start}
 use Rattle.apex_model.specs.Image.{Refusal as ImageRefusal, too_small, state_of}
+use Rattle.apex_model.specs.Isolation.{upstream_marks, concerns}
 use Rattle.apex_model.specs.Layout.{layout_blocks}
 use Rattle.apex_model.specs.Run.{fault_line}
+use Rattle.apex_model.specs.Validity.{IsValid}
 use Rattle.rig_core.specs.Causes.{Rose}
 use Rattle.rig_core.specs.Outside.{Outside}
 use Rattle.table_model.specs.Table.{table_of}
 use Rattle.table_model.specs.declared.errors.TableError.{TableError}
+use Rattle.script_model.specs.Reading.{partition_at}
 use Rattle.script_model.specs.Script.{Refusal, script_of}
 use Rattle.script_model.specs.Refusals.{refusal_line}
 use Rattle.module_session.specs.Sessions.{IsOfLogbooks}
 use Rattle.script_run.specs.Reached.{RoseBy}
-use Rattle.apex_host.specs.Told.{IsCutShort, run_text, formatted_line, usage_line, table_refused_line, table_fault_line, script_fault_line, image_refused_line, mount_fault_line, format_fault_line}
+use Rattle.apex_host.specs.Told.{IsCutShort, run_text, own_text, formatted_line, good_line, usage_line, table_refused_line, table_fault_line, unknown_partition_line, script_fault_line, image_refused_line, mount_fault_line, format_fault_line}
 use Rattle.apex_host.specs.declared.command.Command.{Command}
-use Rattle.apex_host.specs.declared.command.Command.TheVariants.{Format, Run}
+use Rattle.apex_host.specs.declared.command.Command.TheVariants.{Format, Run, Only, Check}
 use Rattle.apex_host.specs.declared.status.Status.{Status}
-use Rattle.apex_host.specs.declared.status.Status.TheVariants.{Done, Usage, TableRefused, ScriptRefused, ImageRefused, SourceFault, DeviceFault, ReplyFault, OutOfMemory}
+use Rattle.apex_host.specs.declared.status.Status.TheVariants.{Done, Usage, TableRefused, ScriptRefused, ImageRefused, CommandRefused, SourceFault, DeviceFault, ReplyFault, OutOfMemory}
 
 -- ---- what is seen around a command
 
@@ -90,6 +93,28 @@ HasTable old now rows = GaveTable old.table now.table rows
 abbrev pub HasScript : Seen → Seen → Rows → List Line → Type 0
 HasScript old now rows lines = GaveScript old.script now.script rows lines
 
+-- this partition of the table has a name
+abbrev pub IsNamed : Rows → List ℕ → ℕ → Type 0
+IsNamed rows name p = partition_at rows name ≡ Some p
+
+-- a command reads its script, after its table and the partition that it is for
+abbrev pub ReadsFor : Rows → Command → Type 0
+ReadsFor rows Format = ⊥
+ReadsFor rows Run = ⊤
+ReadsFor rows (Only name) = (p : ℕ) × IsNamed rows name p
+ReadsFor rows Check = ⊥
+
+-- the command was given a script that it reads
+abbrev pub HasLines : Seen → Seen → Rows → Command → Type 0
+HasLines old now rows c = ReadsFor rows c × ((lines : List Line) × HasScript old now rows lines)
+
+-- a command opens the image, after all that it is given
+abbrev pub OpensImage : Seen → Seen → Rows → Command → Type 0
+OpensImage old now rows Format = ⊥
+OpensImage old now rows Run = HasLines old now rows Run
+OpensImage old now rows (Only name) = HasLines old now rows (Only name)
+OpensImage old now rows Check = ⊤
+
 -- the bytes of a table's image
 abbrev pub image_bytes : Rows → ℕ
 image_bytes rows = 512 * layout_blocks rows
@@ -109,14 +134,30 @@ pub record RefusesImage (tells_view : Type 0) (rows : Rows) (size : ℕ) (view :
   pub small : (wanted : ℕ) → r ≡ too_small wanted
       → (size < image_bytes rows) × (wanted ≡ image_bytes rows)
 
+-- The image stands for a state that a run can start from, and this is so of it.
+pub record StandsForOne (rows : Rows) (view : List ℕ) (P : Durable → Type 0) : Type 0 where
+  pub stored : Durable
+  pub image : state_of rows view ≡ Ok stored
+  pub valid : IsValid rows (start rows stored)
+  pub holds : P stored
+
 -- This text is the replies to some lines, from the state that the image stands for. In some lines a
 -- read failed, and so often at least did reads of the device.
 pub record IsRunText (tells_view : Type 0) (rows : Rows) (lines : List Line) (old now : Seen)
     (text : List ℕ) : Type 0 where
   pub failed : List ℕ
   pub few : RoseBy (length failed) old.read_faults now.read_faults
-  pub of_image : tells_view → (stored : Durable) × (state_of rows old.view ≡ Ok stored)
-      × (text ≡ run_text rows failed (start rows stored) lines)
+  pub of_image : tells_view → StandsForOne rows old.view
+      (λ stored. text ≡ run_text rows failed (start rows stored) lines)
+
+-- this text is a partition's replies to some lines, from that state
+abbrev pub IsHeardText : Type 0 → Rows → ℕ → List Line → Seen → List ℕ → Type 0
+IsHeardText tells_view rows p lines old text = tells_view → StandsForOne rows old.view
+    (λ stored. text ≡ own_text rows p (start rows stored) lines)
+
+-- the line is a tick, or of a partition from which something comes to this one
+abbrev pub IsOwn : Rows → ℕ → Line → Type 0
+IsOwn rows p line = IsTrue (concerns (upstream_marks rows p) line.deed)
 
 -- The device failed in a line: in a write or a sync, or in a read of a tick or of a call of logbooks.
 abbrev pub LineFailed : Line → Seen → Seen → Type 0
@@ -146,21 +187,30 @@ pub data Ends (tells_view : Type 0) (old now : Seen) : Option Command → Status
   -- A format made the device the empty image of the table.
   formatted : (rows : Rows) → HasTable old now rows → image_bytes rows ≤ old.size
       → Ends tells_view old now (Some Format) Done (formatted_line (layout_blocks rows))
-  -- A run had its table, and reading the script's source failed.
-  script_fault : (rows : Rows) → HasTable old now rows → Rose old.script_faults now.script_faults
-      → Ends tells_view old now (Some Run) SourceFault script_fault_line
+  -- The command is for a partition that the table hasn't got.
+  unknown_partition : (name : List ℕ) (rows : Rows) → HasTable old now rows
+      → partition_at rows name ≡ None
+      → Ends tells_view old now (Some (Only name)) CommandRefused unknown_partition_line
+  -- A command had its table, and reading the script's source failed.
+  script_fault : (c : Command) (rows : Rows) → HasTable old now rows → ReadsFor rows c
+      → Rose old.script_faults now.script_faults
+      → Ends tells_view old now (Some c) SourceFault script_fault_line
   -- What that source gave is no script for the table.
-  script_refused : (rows : Rows) (r : Refusal) → HasTable old now rows
-      → IsNoScript rows old.script r
-      → Ends tells_view old now (Some Run) ScriptRefused (refusal_line r)
-  -- A run had its script too, and the image stands for no state of the table.
-  image_refused : (rows : Rows) (lines : List Line) (r : ImageRefusal) → HasTable old now rows
-      → HasScript old now rows lines → RefusesImage tells_view rows old.size old.view r
-      → Ends tells_view old now (Some Run) ImageRefused (image_refused_line r)
-  -- A read of the device failed when a run opened the image.
-  mount_fault : (rows : Rows) (lines : List Line) → HasTable old now rows
-      → HasScript old now rows lines → Rose old.read_faults now.read_faults
-      → Ends tells_view old now (Some Run) DeviceFault mount_fault_line
+  script_refused : (c : Command) (rows : Rows) (r : Refusal) → HasTable old now rows
+      → ReadsFor rows c → IsNoScript rows old.script r
+      → Ends tells_view old now (Some c) ScriptRefused (refusal_line r)
+  -- A command had all that it is given, and the image stands for no state of the table.
+  image_refused : (c : Command) (rows : Rows) (r : ImageRefusal) → HasTable old now rows
+      → OpensImage old now rows c → RefusesImage tells_view rows old.size old.view r
+      → Ends tells_view old now (Some c) ImageRefused (image_refused_line r)
+  -- A read of the device failed when a command opened the image.
+  mount_fault : (c : Command) (rows : Rows) → HasTable old now rows → OpensImage old now rows c
+      → Rose old.read_faults now.read_faults
+      → Ends tells_view old now (Some c) DeviceFault mount_fault_line
+  -- A check found that the image stands for a state.
+  checked : (rows : Rows) → HasTable old now rows
+      → (tells_view → StandsForOne rows old.view (λ stored. ⊤))
+      → Ends tells_view old now (Some Check) Done (good_line rows)
   -- The device failed in a line of the script, after the k lines before it.
   fault_in_line : (rows : Rows) (lines : List Line) (k : ℕ) (line : Line) (text : List ℕ)
       → HasTable old now rows → HasScript old now rows lines → slice_get lines k ≡ Some line
@@ -170,6 +220,18 @@ pub data Ends (tells_view : Type 0) (old now : Seen) : Option Command → Status
   ran : (rows : Rows) (lines : List Line) (text : List ℕ) → HasTable old now rows
       → HasScript old now rows lines → IsRunText tells_view rows lines old now text
       → Ends tells_view old now (Some Run) Done text
+  -- The device failed in a line of a partition's upstream, after the k lines of the script before it.
+  fault_in_own_line : (name : List ℕ) (rows : Rows) (p : ℕ) (lines : List Line) (k : ℕ) (line : Line)
+      (text : List ℕ) → HasTable old now rows → IsNamed rows name p → HasScript old now rows lines
+      → slice_get lines k ≡ Some line → IsOwn rows p line
+      → IsHeardText tells_view rows p (take k lines) old text
+      → (tells_view → DeviceFailed old now)
+      → Ends tells_view old now (Some (Only name)) DeviceFault (text ++ fault_line line.number)
+  -- The lines of a partition's upstream were carried out, and its replies are those to all lines.
+  heard : (name : List ℕ) (rows : Rows) (p : ℕ) (lines : List Line) (text : List ℕ)
+      → HasTable old now rows → IsNamed rows name p → HasScript old now rows lines
+      → IsHeardText tells_view rows p lines old text
+      → Ends tells_view old now (Some (Only name)) Done text
   -- Memory ran out, before there was anything to tell.
   starved : (c : Command) → Ends tells_view old now (Some c) OutOfMemory []
 
@@ -208,10 +270,13 @@ pub record EndsSo (tells_text tells_view : Type 0) (command : Option Command) (o
       ⊎ ToldPart tells_text old now status due result
   pub sources_first : SourcesFirst old now status due
 
--- The script's source is read by a run alone, after its table was given with no fault.
+-- The script's source is read by a command that wants it alone, after its table was given with no
+-- fault, and after the partition that it is for.
 pub record ReadsScript (command : Option Command) (left now : Option (List ℕ))
     (faults faults_now : ℕ) : Type 0 where
-  pub run : command ≡ Some Run
+  pub c : Command
+  pub is : command ≡ Some c
   pub rows : Rows
   pub gave : GaveTable left now rows
+  pub wants : ReadsFor rows c
   pub quiet : faults_now ≡ faults

@@ -1,7 +1,8 @@
 -- What the host tells.
-use Rattle.std.specs.Prelude.{◌≡◌, ◌≢◌, ◌⊎◌, ℕ, List, [], ◌∷◌, ◌++◌, Option, Some, None, codes, decimal}
+use Rattle.std.specs.Prelude.{◌≡◌, ◌≢◌, ◌⊎◌, ℕ, List, [], ◌∷◌, ◌++◌, length, Option, Some, None, codes, decimal}
 use Rattle.apex_types.specs.Rows.{Rows}
 use Rattle.apex_types.specs.declared.calls.Line.{Line}
+use Rattle.apex_model.specs.Isolation.{replies_of}
 use Rattle.apex_model.specs.Image.{Refusal, too_small, not_formatted, other_table, bad_tree, bad_logbook}
 use Rattle.apex_model.specs.Run.{replies_to, text_of, line_of}
 use Rattle.apex_model.specs.World.{World}
@@ -16,9 +17,18 @@ use Rattle.apex_host.specs.declared.status.Status.TheVariants.{ReplyFault}
 abbrev pub run_text : Rows → List ℕ → World → List Line → List ℕ
 run_text table failed w lines = text_of (replies_to table failed w lines)
 
+-- those of them that are a partition's, where no read failed
+abbrev pub own_text : Rows → ℕ → World → List Line → List ℕ
+own_text table p w lines = text_of (replies_of p (replies_to table [] w lines))
+
 -- the line that tells that an image of so many blocks was made
 abbrev pub formatted_line : ℕ → List ℕ
 formatted_line blocks = line_of (codes "formatted" ∷ decimal blocks ∷ codes "blocks" ∷ [])
+
+-- the line that tells that the image of a table is good
+abbrev pub good_line : Rows → List ℕ
+good_line table = line_of (codes "image" ∷ codes "good" ∷ codes "trees" ∷ decimal (length table.trees)
+    ∷ codes "logbooks" ∷ decimal (length table.logbooks) ∷ [])
 
 -- ---- the lines that tell why a command was not carried out
 
@@ -38,6 +48,10 @@ table_fault_line = codes "source fault table" ++ 10 ∷ []
 -- reading the script's source failed
 abbrev pub script_fault_line : List ℕ
 script_fault_line = codes "source fault script" ++ 10 ∷ []
+
+-- no partition of the table has the name that the command is for
+abbrev pub unknown_partition_line : List ℕ
+unknown_partition_line = codes "command refused UnknownPartition" ++ 10 ∷ []
 
 -- the word of a value, if there is one
 abbrev pub value_words : Option ℕ → List (List ℕ)

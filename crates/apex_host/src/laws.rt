@@ -9,17 +9,18 @@ ghost use Rattle.apex_model.specs.Layout.{layout_blocks};
 ghost use Rattle.rig_core.specs.Causes.{Rose};
 ghost use Rattle.table_model.specs.Table.{table_of};
 ghost use Rattle.table_model.specs.declared.errors.TableError.{TableError};
+ghost use Rattle.script_model.specs.Reading.{partition_at};
 ghost use Rattle.script_model.specs.Script.{Refusal, script_of};
 ghost use Rattle.script_model.specs.Refusals.{refusal_line};
 ghost use Rattle.apex_host.specs.Disk.{LeavesDisk, FormatsDisk, IsUntouched, RunsSafely};
-ghost use Rattle.apex_host.specs.Endings.{Seen, DeviceFailed, EndsSo, image_bytes};
+ghost use Rattle.apex_host.specs.Endings.{Seen, ReadsFor, IsNamed, DeviceFailed, EndsSo, image_bytes};
 ghost use Rattle.apex_host.specs.Entries.{LeavesEntries};
-ghost use Rattle.apex_host.specs.Laws.{Means, ReadsTable, ReadsLines, IsQuiet, IsQuietRun, IsQuietFormat, EndsWith, EndsOrStarves};
-ghost use Rattle.apex_host.specs.Told.{run_text, formatted_line, usage_line, table_refused_line, image_refused_line};
+ghost use Rattle.apex_host.specs.Laws.{Means, IsToldApart, ReadsTable, ReadsLines, IsGiven, IsQuiet, IsQuietRun, IsQuietFormat, EndsWith, EndsOrStarves};
+ghost use Rattle.apex_host.specs.Told.{run_text, own_text, formatted_line, good_line, usage_line, table_refused_line, unknown_partition_line, image_refused_line};
 
 use crate::command::Command;
 use crate::status::Status;
-use model_laws::step_keeps_valid;
+use model_laws::{replies_depend_on_upstream, step_keeps_valid};
 use rig_core::Rig;
 
 /// A status comes only of its cause.
@@ -45,24 +46,43 @@ pub fn refuses_tables<R: Rig>()
         Status.TableRefused (table_refused_line e) }
 {}
 
-/// And so is a script, for a table that is accepted, unless a read of its source fails too.
+/// And so is a script, for a table that is accepted and a command that reads it, unless a read of its
+/// source fails too.
 pub fn refuses_scripts<R: Rig>()
-    ensures { (before after : Seen) (status : Status) (rows : Rows) (r : Refusal)
-        → EndsSo R.tells_text R.tells_view (Some Command.Run) before after status → IsQuietRun before after
-        → ReadsTable before (Ok rows) → ReadsLines rows before (Err r)
+    ensures { (c : Command) (before after : Seen) (status : Status) (rows : Rows) (r : Refusal)
+        → EndsSo R.tells_text R.tells_view (Some c) before after status → IsQuietRun before after
+        → ReadsTable before (Ok rows) → ReadsFor rows c → ReadsLines rows before (Err r)
         → EndsOrStarves R.tells_text before after status Status.ScriptRefused (refusal_line r) }
 {}
 
-/// An image that stands for no state of an accepted table is refused with the first reason, unless
-/// memory runs out or a call of the outside fails.
+/// A command for a partition that the table hasn't got is refused, before its script is read.
+pub fn refuses_partitions<R: Rig>()
+    ensures { (name : List ℕ) (before after : Seen) (status : Status) (rows : Rows)
+        → EndsSo R.tells_text R.tells_view (Some (Command.Only name)) before after status
+        → IsQuiet before after → ReadsTable before (Ok rows) → partition_at rows name ≡ None
+        → EndsOrStarves R.tells_text before after status
+        Status.CommandRefused unknown_partition_line }
+{}
+
+/// An image that stands for no state of an accepted table is refused with the first reason, by each
+/// command that opens it, unless memory runs out or a call of the outside fails.
 pub fn refuses_images<R: Rig>()
-    ensures { R.tells_view → (before after : Seen) (status : Status) (rows : Rows)
-        (lines : List Line) (r : ImageRefusal)
-        → EndsSo R.tells_text R.tells_view (Some Command.Run) before after status
-        → IsQuietRun before after → ReadsTable before (Ok rows) → ReadsLines rows before (Ok lines)
+    ensures { R.tells_view → (c : Command) (before after : Seen) (status : Status) (rows : Rows)
+        (r : ImageRefusal) → EndsSo R.tells_text R.tells_view (Some c) before after status
+        → IsQuietRun before after → ReadsTable before (Ok rows) → IsGiven rows before c
         → ¬ (DeviceFailed before after) → state_of rows before.view ≡ Err r
         → EndsOrStarves R.tells_text before after status
         Status.ImageRefused (image_refused_line r) }
+{}
+
+/// An image that stands for a state is found good, unless memory runs out or a call of the outside
+/// fails.
+pub fn finds_good<R: Rig>()
+    ensures { R.tells_view → (before after : Seen) (status : Status) (rows : Rows)
+        (stored : Durable) → EndsSo R.tells_text R.tells_view (Some Command.Check) before after status
+        → IsQuietRun before after → ReadsTable before (Ok rows)
+        → ¬ (DeviceFailed before after) → state_of rows before.view ≡ Ok stored
+        → EndsOrStarves R.tells_text before after status Status.Done (good_line rows) }
 {}
 
 /// A script that is accepted is carried out from the state of the image, and each reply told, unless
@@ -76,6 +96,31 @@ pub fn carries_out<R: Rig>()
         → EndsOrStarves R.tells_text before after status
         Status.Done (run_text rows [] (start rows stored) lines) }
 {}
+
+/// A partition is told what it is told with all lines, though those of its upstream alone are carried
+/// out, unless memory runs out or a call of the outside fails.
+pub fn hears_own<R: Rig>()
+    ensures { R.tells_view → (name : List ℕ) (p : ℕ) (before after : Seen) (status : Status)
+        (rows : Rows) (lines : List Line) (stored : Durable)
+        → EndsSo R.tells_text R.tells_view (Some (Command.Only name)) before after status
+        → IsQuietRun before after → ReadsTable before (Ok rows) → IsNamed rows name p
+        → ReadsLines rows before (Ok lines) → ¬ (DeviceFailed before after)
+        → state_of rows before.view ≡ Ok stored → EndsOrStarves R.tells_text before after status
+        Status.Done (own_text rows p (start rows stored) lines) }
+{}
+
+/// Where a run comes to its end, each partition is told what it is told with the lines and the stored
+/// state of its upstream alone, whichever reads fail.
+pub fn keeps_partitions_apart<R: Rig>()
+    ensures { R.tells_text → R.tells_view → (before after : Seen) (rows : Rows)
+        (lines : List Line) (stored : Durable)
+        → EndsSo R.tells_text R.tells_view (Some Command.Run) before after Status.Done
+        → ReadsTable before (Ok rows) → ReadsLines rows before (Ok lines)
+        → state_of rows before.view ≡ Ok stored
+        → IsToldApart rows lines stored before.told after.told }
+{
+    replies_depend_on_upstream();
+}
 
 /// A device that is too small for the image of an accepted table is refused.
 pub fn refuses_small<R: Rig>()

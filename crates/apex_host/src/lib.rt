@@ -2,8 +2,10 @@
 #![tactic(auto)]
 
 mod accepting;
+mod checking;
 mod command;
 mod formatting;
+mod hearing;
 mod laws;
 mod opening;
 mod reading;
@@ -15,8 +17,9 @@ mod top;
 
 pub use command::Command;
 pub use laws::{
-    carries_out, cuts_of_runs, formats, formats_at_every_moment, keeps_logged_entries,
-    refuses_images, refuses_scripts, refuses_small, refuses_tables, statuses_mean, tells_usage,
+    carries_out, cuts_of_runs, finds_good, formats, formats_at_every_moment, hears_own,
+    keeps_logged_entries, keeps_partitions_apart, refuses_images, refuses_partitions,
+    refuses_scripts, refuses_small, refuses_tables, statuses_mean, tells_usage,
 };
 pub use status::Status;
 pub use top::host;

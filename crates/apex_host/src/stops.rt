@@ -6,7 +6,7 @@ ghost use Rattle.apex_model.specs.Run.{spaced, line_of};
 ghost use Rattle.script_model.specs.Refusals.{refusal_line};
 ghost use Rattle.call_script.specs.Errors.{refusal_of};
 ghost use Rattle.apex_host.specs.Stops.{told_with, refusal_of_image};
-ghost use Rattle.apex_host.specs.Told.{value_words, table_refused_line, table_fault_line, script_fault_line, image_refused_line, mount_fault_line, format_fault_line};
+ghost use Rattle.apex_host.specs.Told.{value_words, table_refused_line, table_fault_line, unknown_partition_line, script_fault_line, image_refused_line, mount_fault_line, format_fault_line};
 
 use crate::status::Status;
 use call_script::{ReplyText, ScriptError, refusal_line as script_refusal_line};
@@ -160,6 +160,16 @@ impl Stop {
         ensures { result ≡ told_with Status.SourceFault table_fault_line }
     {
         Stop::told(Status::SourceFault, b"source fault table\n")
+    }
+
+    /// No partition of the table has the name that the command is for.
+    pub fn unknown_partition() -> Stop
+        ensures { result ≡ told_with Status.CommandRefused unknown_partition_line }
+    {
+        Stop::told(
+            Status::CommandRefused,
+            b"command refused UnknownPartition\n",
+        )
     }
 
     /// A read of the script's source failed.

@@ -6,8 +6,10 @@ ghost use Rattle.apex_host.specs.Commands.{command_of_words};
 ghost use Rattle.apex_host.specs.Disk.{LeavesDisk};
 ghost use Rattle.apex_host.specs.Endings.{seen, seen_by, EndsSo, ReadsScript};
 
+use crate::checking::check;
 use crate::command::{Command, command_of};
 use crate::formatting::format_device;
+use crate::hearing::only;
 use crate::running::run;
 use crate::status::Status;
 use crate::telling::told;
@@ -73,5 +75,7 @@ pub fn host<T: Source, S: Source, R: Rig>(
         None => tell_usage(rig),
         Some(Command::Format) => format_device(alloc, table, rig),
         Some(Command::Run) => run(alloc, table, script, rig),
+        Some(Command::Only(name)) => only(alloc, &name, table, script, rig),
+        Some(Command::Check) => check(alloc, table, rig),
     }
 }

@@ -2,6 +2,7 @@ ghost use Rattle.std.specs.Prelude.{IfOk};
 ghost use Rattle.rig_core.specs.Leaves.{IsAllSettled};
 ghost use Rattle.rig_core.specs.MemRig.{mem_state};
 
+mod commands;
 mod directory_calls;
 mod faults;
 mod file_calls;

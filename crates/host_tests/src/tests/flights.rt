@@ -8,7 +8,7 @@ use std::alloc::Global;
 use std::test::Fail;
 
 /// What stands before the first tick.
-const TAKE_OFF: &[u8] = b"FMS CREATE_SAMPLING_PORT ALT
+pub const TAKE_OFF: &[u8] = b"FMS CREATE_SAMPLING_PORT ALT
 DISP CREATE_SAMPLING_PORT ALT
 FMS CREATE_LOGBOOK FLIGHT
 FMS MODE NORMAL

@@ -241,10 +241,10 @@ fn a_change_that_was_not_synchronised_is_left_whole_or_not_at_all(
 }
 
 /// A change of the formatted image of the small table: a place with its bytes.
-type Patch = (usize, &'static [u8]);
+pub type Patch = (usize, &'static [u8]);
 
 /// The formatted image of the small table with these changes.
-fn patched(alloc: Global, patches: &[Patch]) -> Result<ByteList, OutOfMemory> {
+pub fn patched(alloc: Global, patches: &[Patch]) -> Result<ByteList, OutOfMemory> {
     let rig = rig(alloc, SMALL, 0)?;
     let mut bytes = rig.view().to_vec(alloc)?;
     for (at, new) in patches {

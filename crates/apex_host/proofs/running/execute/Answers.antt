@@ -18,14 +18,14 @@ pub returns-in-Err-clause-unwritten : goal.returns-in-Err-clause-unwritten
 returns-in-Err-clause-unwritten g c = (no-table-undone c.in-Err.ensures.stopped, tells-none g.R.Rig.tells_view (g.R.Rig.state c.args.rig.now))
 
 pub returns-in-Err-accepted_script-clause-stopped : goal.returns-in-Err-accepted_script-clause-stopped
-returns-in-Err-accepted_script-clause-stopped g c = no-script (g.R.Rig.state c.args.rig.now) c.in-Ok.rows c.in-Ok.ensures.gave c.in-Ok.ensures.good c.in-Err-accepted_script.ensures.stopped
+returns-in-Err-accepted_script-clause-stopped g c = no-script (g.R.Rig.state c.args.rig.now) Run c.in-Ok.rows c.in-Ok.ensures.gave tt c.in-Ok.ensures.good c.in-Err-accepted_script.ensures.stopped
 
 pub returns-in-Err-accepted_script-clause-unwritten : goal.returns-in-Err-accepted_script-clause-unwritten
 returns-in-Err-accepted_script-clause-unwritten g c = (no-script-undone c.in-Err-accepted_script.ensures.stopped, tells-none g.R.Rig.tells_view (g.R.Rig.state c.args.rig.now))
 
 pub returns-in-Err-opened_session-clause-stopped : goal.returns-in-Err-opened_session-clause-stopped
 returns-in-Err-opened_session-clause-stopped g c =
-    no-image (g.R.Rig.state c.args.rig.now) (g.R.Rig.state c.opened_session.new.rig) c.in-Ok.ensures.good c.in-Ok-accepted_script.ensures.good c.in-Ok.rows c.in-Ok-accepted_script.lines c.in-Ok.ensures.gave c.in-Ok-accepted_script.ensures.gave
+    no-image (g.R.Rig.state c.args.rig.now) (g.R.Rig.state c.opened_session.new.rig) c.in-Ok.ensures.good c.in-Ok-accepted_script.ensures.good Run c.in-Ok.rows c.in-Ok.ensures.gave (tt, (c.in-Ok-accepted_script.lines, c.in-Ok-accepted_script.ensures.gave))
     c.opened_session.ensures.reads.told c.in-Err-opened_session.ensures.stopped
 
 pub returns-in-Err-opened_session-clause-unwritten : goal.returns-in-Err-opened_session-clause-unwritten
