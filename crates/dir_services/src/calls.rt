@@ -1,10 +1,11 @@
 // The directory calls.
-ghost use Rattle.std.specs.Prelude.{◌<◌, false, length, map, OnOk};
+ghost use Rattle.std.specs.Prelude.{◌≡◌, ◌<◌, false, true, length, map, OnOk};
 ghost use Rattle.apex_model.specs.Accepted.{IsAccepted};
 ghost use Rattle.apex_model.specs.DirectoryStep.{directory_service, directory_step};
 ghost use Rattle.rig_core.specs.Windows.{AreLaidOut};
 ghost use Rattle.tree_store.specs.Serving.{AreOfTable, AreServing, AreStored, sites_of, window_of};
-ghost use Rattle.service_parts.specs.Serving.{AreInService, IsServed, ReadsFailed};
+ghost use Rattle.service_parts.specs.Serving.{AreInService, IsServed, MakesFourIfDone, ReadsFailed};
+ghost use Rattle.dir_services.specs.Naming.{is_naming};
 
 use crate::listing::{read_directory, rewind_directory, sync_directory};
 use crate::making::make_directory;
@@ -29,8 +30,10 @@ fn serve<R: Rig>(
     requires caller { p.0 < length handles.old }
     requires of_table { AreOfTable table.now trees.old handles.old }
     requires serving { AreInService R.tells_view (R.state rig.old) trees.old handles.old }
-    ensures { IsServed R.tells_view (λ fs. directory_service table.now fs p.0 call.now) ⊥ 52 3
+    ensures served { IsServed R.tells_view (λ fs. directory_service table.now fs p.0 call.now) ⊥ 52 3
         trees.old trees.new handles.old handles.new (R.state rig.old) (R.state rig.new) result }
+    ensures rises { is_naming call.now ≡ true
+        → MakesFourIfDone R.keeps_cuts (R.state rig.old) (R.state rig.new) result }
 {
     match call {
         DirCall::OpenDirectory { path } => {
@@ -70,6 +73,8 @@ pub fn dir_call<R: Rig>(
     ensures serving { OnOk result
         (AreServing R.tells_view (R.state rig.new) table.now trees.new handles.new) }
     ensures of_table { AreOfTable table.now trees.new handles.new }
+    ensures rises { is_naming call.now ≡ true
+        → MakesFourIfDone R.keeps_cuts (R.state rig.old) (R.state rig.new) result }
 {
     if !ready {
         return Ok(refusal(Errno::Eperm));

@@ -9,7 +9,7 @@ ghost use Rattle.tree_store.specs.Calls.{AtTree};
 ghost use Rattle.tree_store.specs.Serving.{AreOfTable};
 ghost use Rattle.tree_store.specs.Stored.{names_of};
 ghost use Rattle.service_parts.specs.Places.{model_place};
-ghost use Rattle.service_parts.specs.Serving.{AreInService, IsServed};
+ghost use Rattle.service_parts.specs.Serving.{AreInService, IsServed, MakesFourIfDone};
 ghost use Rattle.dir_services.specs.Steps.{make_at};
 
 use apex_types::{DirNode, Errno, PartitionId, Reply, Spot, Table, Values};
@@ -29,10 +29,12 @@ fn make_in<R: Rig>(
     requires within { place.tree < length trees.old }
     requires free { AtTree trees.old place.tree (λ store.
         IsSpotAt (names_of store) place.path.names (Spot.Free parent)) }
-    ensures { (table : Rows) (handles : AllHandles) → AreOfTable table trees.old handles
+    ensures served { (table : Rows) (handles : AllHandles) → AreOfTable table trees.old handles
         → AreInService R.tells_view (R.state rig.old) trees.old handles
         → IsServed R.tells_view (λ fs. make_at table fs (model_place place)) ⊥ 52 3
         trees.old trees.new handles handles (R.state rig.old) (R.state rig.new) result }
+    ensures rises { MakesFourIfDone R.keeps_cuts
+        (R.state rig.old) (R.state rig.new) result }
 {
     let name = last_name(&place.path.names);
     match trees.make_dir(rig, place.tree, parent, name) {
@@ -55,10 +57,12 @@ fn make_spot<R: Rig>(
     requires within { place.tree < length trees.old }
     requires found { AtTree trees.old place.tree (λ store.
         IsSpotAt (names_of store) place.path.names spot) }
-    ensures { (table : Rows) (handles : AllHandles) → AreOfTable table trees.old handles
+    ensures served { (table : Rows) (handles : AllHandles) → AreOfTable table trees.old handles
         → AreInService R.tells_view (R.state rig.old) trees.old handles
         → IsServed R.tells_view (λ fs. make_at table fs (model_place place)) ⊥ 52 3
         trees.old trees.new handles handles (R.state rig.old) (R.state rig.new) result }
+    ensures rises { MakesFourIfDone R.keeps_cuts
+        (R.state rig.old) (R.state rig.new) result }
 {
     match spot {
         Spot::Free { parent } => make_in(trees, rig, place, parent),
@@ -79,10 +83,12 @@ pub fn make_directory<R: Rig>(
     requires accepted { IsAccepted table.now }
     requires serving { (handles : AllHandles) × AreOfTable table.now trees.old handles
         × AreInService R.tells_view (R.state rig.old) trees.old handles }
-    ensures { (handles : AllHandles) → AreOfTable table.now trees.old handles
+    ensures served { (handles : AllHandles) → AreOfTable table.now trees.old handles
         → AreInService R.tells_view (R.state rig.old) trees.old handles
         → IsServed R.tells_view (λ fs. make_step table.now fs p.0 path.now) ⊥ 52 3
         trees.old trees.new handles handles (R.state rig.old) (R.state rig.new) result }
+    ensures rises { MakesFourIfDone R.keeps_cuts
+        (R.state rig.old) (R.state rig.new) result }
 {
     let place = match place_of(table, Right::Owner, p, path) {
         Err(errno) => return Ok(refusal(errno)),

@@ -12,7 +12,7 @@ ghost use Rattle.tree_store.specs.Calls.{AtTree};
 ghost use Rattle.tree_store.specs.Serving.{AreOfTable};
 ghost use Rattle.tree_store.specs.Stored.{names_of};
 ghost use Rattle.service_parts.specs.Places.{model_place};
-ghost use Rattle.service_parts.specs.Serving.{AreInService, IsServed};
+ghost use Rattle.service_parts.specs.Serving.{AreInService, IsServed, MakesFourIfDone};
 
 use apex_types::{DirNode, Errno, PartitionId, Reply, Spot, Table, Values};
 use open_handles::Handles;
@@ -38,9 +38,11 @@ fn remove_closed<R: Rig>(
         way_of (names_of store) found.0 ≡ Some place.path.names) }
     requires closed { any_open (holds_directory place.tree found)
         (handles_of handles.old p.0).directories ≡ false }
-    ensures { IsServed R.tells_view
+    ensures served { IsServed R.tells_view
         (λ fs. remove_directory_at fs p.0 (model_place place) (Some directory)) ⊥ 52 3
         trees.old trees.new handles.old handles.new (R.state rig.old) (R.state rig.new) result }
+    ensures rises { MakesFourIfDone R.keeps_cuts
+        (R.state rig.old) (R.state rig.new) result }
 {
     match trees.remove_dir(rig, place.tree, found) {
         Ok(()) => {
@@ -68,9 +70,11 @@ fn remove_spot<R: Rig>(
     requires within { place.tree < length trees.old }
     requires found { AtTree trees.old place.tree (λ store.
         IsSpotAt (names_of store) place.path.names spot) }
-    ensures { IsServed R.tells_view (λ fs. remove_directory_at fs p.0 (model_place place)
+    ensures served { IsServed R.tells_view (λ fs. remove_directory_at fs p.0 (model_place place)
         (standing_at (tree_in fs place.tree) place.path.names)) ⊥ 52 3
         trees.old trees.new handles.old handles.new (R.state rig.old) (R.state rig.new) result }
+    ensures rises { MakesFourIfDone R.keeps_cuts
+        (R.state rig.old) (R.state rig.new) result }
 {
     let found = match spot {
         Spot::Free { .. } => return Ok(refusal(Errno::Enoent)),
@@ -98,8 +102,10 @@ pub fn remove_directory<R: Rig>(
     requires caller { p.0 < length handles.old }
     requires of_table { AreOfTable table.now trees.old handles.old }
     requires serving { AreInService R.tells_view (R.state rig.old) trees.old handles.old }
-    ensures { IsServed R.tells_view (λ fs. remove_step table.now fs p.0 path.now) ⊥ 52 3
+    ensures served { IsServed R.tells_view (λ fs. remove_step table.now fs p.0 path.now) ⊥ 52 3
         trees.old trees.new handles.old handles.new (R.state rig.old) (R.state rig.new) result }
+    ensures rises { MakesFourIfDone R.keeps_cuts
+        (R.state rig.old) (R.state rig.new) result }
 {
     let place = match place_of(table, Right::Owner, p, path) {
         Err(errno) => return Ok(refusal(errno)),

@@ -10,4 +10,5 @@ pub mod RemovingLaws
 pub mod RenamingLaws
 pub mod SeekingLaws
 pub mod ServingLaws
+pub mod Unread
 pub mod VolumesLaws

@@ -1,10 +1,11 @@
 // The file calls.
-ghost use Rattle.std.specs.Prelude.{◌≡◌, ◌<◌, length, map, OnOk};
+ghost use Rattle.std.specs.Prelude.{◌≡◌, ◌<◌, length, map, true, IfOk, OnOk};
 ghost use Rattle.apex_model.specs.Accepted.{IsAccepted};
 ghost use Rattle.apex_model.specs.FailedReads.{reads_content};
 ghost use Rattle.apex_model.specs.FileStep.{file_service, file_step};
 ghost use Rattle.rig_core.specs.Windows.{AreLaidOut};
-ghost use Rattle.service_parts.specs.Serving.{AreInService, IsServed, ReadsFailed};
+ghost use Rattle.service_parts.specs.Serving.{AreInService, EioOnlyIfRead, IsServed, MakesFourIfDone, ReadsFailed};
+ghost use Rattle.file_services.specs.Naming.{is_naming};
 ghost use Rattle.tree_store.specs.Serving.{AreOfTable, AreServing, AreStored, sites_of, window_of};
 
 use crate::changing::{resize_file, sync_file, write_file};
@@ -35,9 +36,13 @@ fn serve<R: Rig>(
     requires caller { p.0 < length handles.old }
     requires of_table { AreOfTable table.now trees.old handles.old }
     requires serving { AreInService R.tells_view (R.state rig.old) trees.old handles.old }
-    ensures { IsServed R.tells_view (λ fs. file_service table.now fs p.0 call.now)
+    ensures served { IsServed R.tells_view (λ fs. file_service table.now fs p.0 call.now)
         (ReadsFailed (reads_content call.now) (R.state rig.old) (R.state rig.new)) 52 3
         trees.old trees.new handles.old handles.new (R.state rig.old) (R.state rig.new) result }
+    ensures unread { reads_content call.now ≡ true
+        → IfOk result (EioOnlyIfRead (R.state rig.old) (R.state rig.new)) }
+    ensures rises { is_naming call.now ≡ true
+        → MakesFourIfDone R.keeps_cuts (R.state rig.old) (R.state rig.new) result }
 {
     match call {
         FileCall::OpenNewFile { path } => {
@@ -97,6 +102,10 @@ pub fn file_call<R: Rig>(
     ensures serving { OnOk result
         (AreServing R.tells_view (R.state rig.new) table.now trees.new handles.new) }
     ensures of_table { AreOfTable table.now trees.new handles.new }
+    ensures unread { reads_content call.now ≡ true
+        → IfOk result (EioOnlyIfRead (R.state rig.old) (R.state rig.new)) }
+    ensures rises { is_naming call.now ≡ true
+        → MakesFourIfDone R.keeps_cuts (R.state rig.old) (R.state rig.new) result }
 {
     if !ready {
         return Ok(refusal(Errno::Eperm));

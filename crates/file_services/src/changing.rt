@@ -1,10 +1,10 @@
 // Changing files, and making sure of them.
-ghost use Rattle.std.specs.Prelude.{◌≡◌, ◌<◌, ◌≤◌, length, true, false, Some};
+ghost use Rattle.std.specs.Prelude.{◌≡◌, ◌<◌, ◌≤◌, length, true, false, Some, IfOk};
 ghost use Rattle.apex_types.specs.Rows.{Rows};
 ghost use Rattle.apex_model.specs.FileStep.{write_file as write_step, resize_file as resize_step, sync_file as sync_step};
 ghost use Rattle.apex_model.specs.Handles.{handle_at};
 ghost use Rattle.open_handles.specs.NodeHandles.{handles_of};
-ghost use Rattle.service_parts.specs.Serving.{AreInService, IsServed, ReadsFailed};
+ghost use Rattle.service_parts.specs.Serving.{AreInService, EioOnlyIfRead, IsServed, ReadsFailed};
 ghost use Rattle.tree_store.specs.Serving.{AreOfTable};
 
 use apex_types::{Errno, FileHandle, FileNode, OpenMode, PartitionId, Reply, Values};
@@ -31,10 +31,11 @@ fn write_through<R: Rig>(
     requires some { 1 ≤ length bytes.now }
     requires few { length bytes.now ≤ 4096 }
     requires serving { AreInService R.tells_view (R.state rig.old) trees.old handles.old }
-    ensures { (table : Rows) → AreOfTable table trees.old handles.old
+    ensures served { (table : Rows) → AreOfTable table trees.old handles.old
         → IsServed R.tells_view (λ fs. write_step table fs p.0 id bytes.now)
         (ReadsFailed true (R.state rig.old) (R.state rig.new)) 52 3
         trees.old trees.new handles.old handles.new (R.state rig.old) (R.state rig.new) result }
+    ensures unread { IfOk result (EioOnlyIfRead (R.state rig.old) (R.state rig.new)) }
 {
     match trees.write(rig, handle.tree, file, handle.position, bytes) {
         Ok(()) => {
@@ -58,10 +59,11 @@ pub fn write_file<R: Rig>(
 ) -> Result<Reply, DeviceFault>
     requires caller { p.0 < length handles.old }
     requires serving { AreInService R.tells_view (R.state rig.old) trees.old handles.old }
-    ensures { (table : Rows) → AreOfTable table trees.old handles.old
+    ensures served { (table : Rows) → AreOfTable table trees.old handles.old
         → IsServed R.tells_view (λ fs. write_step table fs p.0 id bytes.now)
         (ReadsFailed true (R.state rig.old) (R.state rig.new)) 52 3
         trees.old trees.new handles.old handles.new (R.state rig.old) (R.state rig.new) result }
+    ensures unread { IfOk result (EioOnlyIfRead (R.state rig.old) (R.state rig.new)) }
 {
     let Some(handle) = handles.file(p, id) else {
         return Ok(refusal(Errno::Ebadf));
@@ -97,10 +99,11 @@ fn resize_through<R: Rig>(
     requires has_file { handle.file ≡ Some file }
     requires writes { handle.mode ≡ OpenMode.ReadWrite }
     requires serving { AreInService R.tells_view (R.state rig.old) trees.old handles.old }
-    ensures { (table : Rows) → AreOfTable table trees.old handles.old
+    ensures served { (table : Rows) → AreOfTable table trees.old handles.old
         → IsServed R.tells_view (λ fs. resize_step table fs p.0 id size)
         (ReadsFailed true (R.state rig.old) (R.state rig.new)) 52 3
         trees.old trees.new handles.old handles.new (R.state rig.old) (R.state rig.new) result }
+    ensures unread { IfOk result (EioOnlyIfRead (R.state rig.old) (R.state rig.new)) }
 {
     match trees.resize(rig, handle.tree, file, size) {
         Ok(()) => {
@@ -124,10 +127,11 @@ pub fn resize_file<R: Rig>(
 ) -> Result<Reply, DeviceFault>
     requires caller { p.0 < length handles.old }
     requires serving { AreInService R.tells_view (R.state rig.old) trees.old handles.old }
-    ensures { (table : Rows) → AreOfTable table trees.old handles.old
+    ensures served { (table : Rows) → AreOfTable table trees.old handles.old
         → IsServed R.tells_view (λ fs. resize_step table fs p.0 id size)
         (ReadsFailed true (R.state rig.old) (R.state rig.new)) 52 3
         trees.old trees.new handles.old handles.new (R.state rig.old) (R.state rig.new) result }
+    ensures unread { IfOk result (EioOnlyIfRead (R.state rig.old) (R.state rig.new)) }
 {
     let Some(handle) = handles.file(p, id) else {
         return Ok(refusal(Errno::Ebadf));

@@ -8,7 +8,7 @@ ghost use Rattle.apex_model.specs.Trees.{standing_at};
 ghost use Rattle.file_tree.specs.Entries.{IsSpotAt};
 ghost use Rattle.open_handles.specs.NodeHandles.{handles_of};
 ghost use Rattle.service_parts.specs.Places.{model_place};
-ghost use Rattle.service_parts.specs.Serving.{AreInService, IsServed, ReadsFailed};
+ghost use Rattle.service_parts.specs.Serving.{AreInService, IsServed, MakesFourIfDone, ReadsFailed};
 ghost use Rattle.tree_store.specs.Calls.{AtTree};
 ghost use Rattle.tree_store.specs.Serving.{AreOfTable};
 ghost use Rattle.tree_store.specs.Stored.{names_of};
@@ -36,10 +36,12 @@ fn make_file<R: Rig>(
     requires free { AtTree trees.old place.tree (λ store.
         IsSpotAt (names_of store) place.path.names (Spot.Free parent)) }
     requires number { IsSome (least_free (handles_of handles.old p.0).files) }
-    ensures { IsServed R.tells_view (λ fs. open_new_at table.now fs p.0 (model_place place)
+    ensures served { IsServed R.tells_view (λ fs. open_new_at table.now fs p.0 (model_place place)
         (standing_at (tree_in fs place.tree) place.path.names))
         (ReadsFailed false (R.state rig.old) (R.state rig.new)) 52 3
         trees.old trees.new handles.old handles.new (R.state rig.old) (R.state rig.new) result }
+    ensures rises { MakesFourIfDone R.keeps_cuts
+        (R.state rig.old) (R.state rig.new) result }
 {
     let name = last_name(&place.path.names);
     trees.tree(place.tree).stand();
@@ -70,10 +72,12 @@ fn make_in<R: Rig>(
     requires within { place.tree < length trees.old }
     requires free { AtTree trees.old place.tree (λ store.
         IsSpotAt (names_of store) place.path.names (Spot.Free parent)) }
-    ensures { IsServed R.tells_view (λ fs. open_new_at table.now fs p.0 (model_place place)
+    ensures served { IsServed R.tells_view (λ fs. open_new_at table.now fs p.0 (model_place place)
         (standing_at (tree_in fs place.tree) place.path.names))
         (ReadsFailed false (R.state rig.old) (R.state rig.new)) 52 3
         trees.old trees.new handles.old handles.new (R.state rig.old) (R.state rig.new) result }
+    ensures rises { MakesFourIfDone R.keeps_cuts
+        (R.state rig.old) (R.state rig.new) result }
 {
     let limit = table.trees()[place.tree as usize].files as u32;
     if limit <= trees.tree(place.tree).files() {
@@ -101,10 +105,12 @@ fn make_spot<R: Rig>(
     requires within { place.tree < length trees.old }
     requires found { AtTree trees.old place.tree (λ store.
         IsSpotAt (names_of store) place.path.names spot) }
-    ensures { IsServed R.tells_view (λ fs. open_new_at table.now fs p.0 (model_place place)
+    ensures served { IsServed R.tells_view (λ fs. open_new_at table.now fs p.0 (model_place place)
         (standing_at (tree_in fs place.tree) place.path.names))
         (ReadsFailed false (R.state rig.old) (R.state rig.new)) 52 3
         trees.old trees.new handles.old handles.new (R.state rig.old) (R.state rig.new) result }
+    ensures rises { MakesFourIfDone R.keeps_cuts
+        (R.state rig.old) (R.state rig.new) result }
 {
     match spot {
         Spot::Free { parent } => make_in(table, trees, handles, rig, p, place, parent),
@@ -127,9 +133,11 @@ pub fn open_new_file<R: Rig>(
     requires caller { p.0 < length handles.old }
     requires of_table { AreOfTable table.now trees.old handles.old }
     requires serving { AreInService R.tells_view (R.state rig.old) trees.old handles.old }
-    ensures { IsServed R.tells_view (λ fs. open_new_step table.now fs p.0 path.now)
+    ensures served { IsServed R.tells_view (λ fs. open_new_step table.now fs p.0 path.now)
         (ReadsFailed false (R.state rig.old) (R.state rig.new)) 52 3
         trees.old trees.new handles.old handles.new (R.state rig.old) (R.state rig.new) result }
+    ensures rises { MakesFourIfDone R.keeps_cuts
+        (R.state rig.old) (R.state rig.new) result }
 {
     let place = match place_of(table, Right::Owner, p, path) {
         Err(errno) => return Ok(refusal(errno)),

@@ -8,7 +8,7 @@ ghost use Rattle.rig_core.specs.Causes.{Rose};
 ghost use Rattle.rig_core.specs.Outside.{OnlyReads};
 ghost use Rattle.store_model.specs.Stores.{StoreValue, kept_at};
 ghost use Rattle.store_model.specs.Systems.{store_at};
-ghost use Rattle.service_parts.specs.Serving.{AllOutline, AreInService, AreSeen, IsServed, ReadsFailed, Serves};
+ghost use Rattle.service_parts.specs.Serving.{AllOutline, AreInService, AreSeen, EioOnlyIfRead, IsServed, ReadsFailed, Serves};
 ghost use Rattle.tree_store.specs.Calls.{AreReady, AtTree};
 ghost use Rattle.tree_store.specs.Naming.{HasFile};
 ghost use Rattle.tree_store.specs.Serving.{AllHold};
@@ -89,9 +89,10 @@ fn read_through<R: Rig>(
     requires some { 1 ≤ limit }
     requires few { limit ≤ 4096 }
     requires serving { AreInService R.tells_view (R.state rig.old) trees.now handles.old }
-    ensures { IsServed R.tells_view (λ fs. read_step fs p.0 id limit)
+    ensures served { IsServed R.tells_view (λ fs. read_step fs p.0 id limit)
         (ReadsFailed true (R.state rig.old) (R.state rig.new)) 52 3
         trees.now trees.now handles.old handles.new (R.state rig.old) (R.state rig.new) (Ok result) }
+    ensures unread { EioOnlyIfRead (R.state rig.old) (R.state rig.new) result }
 {
     match part_of(trees, rig, handle.tree, file, handle.position, limit) {
         Ok(bytes) => {
@@ -113,9 +114,10 @@ pub fn read_file<R: Rig>(
 ) -> Reply
     requires caller { p.0 < length handles.old }
     requires serving { AreInService R.tells_view (R.state rig.old) trees.now handles.old }
-    ensures { IsServed R.tells_view (λ fs. read_step fs p.0 id limit)
+    ensures served { IsServed R.tells_view (λ fs. read_step fs p.0 id limit)
         (ReadsFailed true (R.state rig.old) (R.state rig.new)) 52 3
         trees.now trees.now handles.old handles.new (R.state rig.old) (R.state rig.new) (Ok result) }
+    ensures unread { EioOnlyIfRead (R.state rig.old) (R.state rig.new) result }
 {
     let Some(handle) = handles.file(p, id) else {
         return refusal(Errno::Ebadf);

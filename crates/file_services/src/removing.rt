@@ -9,7 +9,7 @@ ghost use Rattle.file_tree.specs.Entries.{IsSpotAt, slot};
 ghost use Rattle.open_handles.specs.NodeHandles.{handles_of};
 ghost use Rattle.open_handles.specs.Nodes.{holds_file};
 ghost use Rattle.service_parts.specs.Places.{model_place};
-ghost use Rattle.service_parts.specs.Serving.{AreInService, IsServed, ReadsFailed};
+ghost use Rattle.service_parts.specs.Serving.{AreInService, IsServed, MakesFourIfDone, ReadsFailed};
 ghost use Rattle.tree_store.specs.Calls.{AtTree};
 ghost use Rattle.tree_store.specs.Serving.{AreOfTable};
 ghost use Rattle.tree_store.specs.Stored.{names_of};
@@ -36,10 +36,12 @@ fn remove_closed<R: Rig>(
         slot (names_of store).files file.0 ≡ Some place.path.names) }
     requires closed { any_open (holds_file place.tree file) (handles_of handles.old p.0).files
         ≡ false }
-    ensures { IsServed R.tells_view (λ fs. remove_file_at fs p.0 (model_place place)
+    ensures served { IsServed R.tells_view (λ fs. remove_file_at fs p.0 (model_place place)
         (standing_at (tree_in fs place.tree) place.path.names))
         (ReadsFailed false (R.state rig.old) (R.state rig.new)) 52 3
         trees.old trees.new handles.old handles.new (R.state rig.old) (R.state rig.new) result }
+    ensures rises { MakesFourIfDone R.keeps_cuts
+        (R.state rig.old) (R.state rig.new) result }
 {
     match trees.remove_file(rig, place.tree, file) {
         Ok(()) => {
@@ -64,10 +66,12 @@ fn remove_spot<R: Rig>(
     requires within { place.tree < length trees.old }
     requires found { AtTree trees.old place.tree (λ store.
         IsSpotAt (names_of store) place.path.names spot) }
-    ensures { IsServed R.tells_view (λ fs. remove_file_at fs p.0 (model_place place)
+    ensures served { IsServed R.tells_view (λ fs. remove_file_at fs p.0 (model_place place)
         (standing_at (tree_in fs place.tree) place.path.names))
         (ReadsFailed false (R.state rig.old) (R.state rig.new)) 52 3
         trees.old trees.new handles.old handles.new (R.state rig.old) (R.state rig.new) result }
+    ensures rises { MakesFourIfDone R.keeps_cuts
+        (R.state rig.old) (R.state rig.new) result }
 {
     let file = match spot {
         Spot::Free { .. } => return Ok(refusal(Errno::Enoent)),
@@ -94,9 +98,11 @@ pub fn remove_file<R: Rig>(
     requires caller { p.0 < length handles.old }
     requires of_table { AreOfTable table.now trees.old handles.old }
     requires serving { AreInService R.tells_view (R.state rig.old) trees.old handles.old }
-    ensures { IsServed R.tells_view (λ fs. remove_step table.now fs p.0 path.now)
+    ensures served { IsServed R.tells_view (λ fs. remove_step table.now fs p.0 path.now)
         (ReadsFailed false (R.state rig.old) (R.state rig.new)) 52 3
         trees.old trees.new handles.old handles.new (R.state rig.old) (R.state rig.new) result }
+    ensures rises { MakesFourIfDone R.keeps_cuts
+        (R.state rig.old) (R.state rig.new) result }
 {
     let place = match place_of(table, Right::Owner, p, path) {
         Err(errno) => return Ok(refusal(errno)),

@@ -8,7 +8,7 @@ ghost use Rattle.apex_model.specs.Trees.{Name, standing_at, walk};
 ghost use Rattle.file_tree.specs.Entries.{IsSpotAt, slot};
 ghost use Rattle.open_handles.specs.NodeHandles.{handles_of};
 ghost use Rattle.open_handles.specs.Nodes.{holds_file};
-ghost use Rattle.service_parts.specs.Serving.{AreInService, IsServed, ReadsFailed};
+ghost use Rattle.service_parts.specs.Serving.{AreInService, IsServed, MakesFourIfDone, ReadsFailed};
 ghost use Rattle.tree_store.specs.Calls.{AtTree};
 ghost use Rattle.tree_store.specs.Serving.{AreOfTable};
 ghost use Rattle.tree_store.specs.Stored.{names_of};
@@ -41,10 +41,12 @@ fn rename_closed<R: Rig>(
         ≡ false }
     requires found { AtTree trees.old target.tree (λ store.
         slot (names_of store).files file.0 ≡ Some from.now) }
-    ensures { IsServed R.tells_view (λ fs. rename_at fs p.0 target.tree from.now
+    ensures served { IsServed R.tells_view (λ fs. rename_at fs p.0 target.tree from.now
         target.path.names (standing_at (tree_in fs target.tree) from.now))
         (ReadsFailed false (R.state rig.old) (R.state rig.new)) 52 3
         trees.old trees.new handles.now handles.now (R.state rig.old) (R.state rig.new) result }
+    ensures rises { MakesFourIfDone R.keeps_cuts
+        (R.state rig.old) (R.state rig.new) result }
 {
     let name = last_name(&target.path.names);
     match trees.rename(rig, target.tree, file, parent, name) {
@@ -73,10 +75,12 @@ fn rename_to<R: Rig>(
         IsSpotAt (names_of store) target.path.names spot) }
     requires found { AtTree trees.old target.tree (λ store.
         slot (names_of store).files file.0 ≡ Some from.now) }
-    ensures { IsServed R.tells_view (λ fs. rename_at fs p.0 target.tree from.now
+    ensures served { IsServed R.tells_view (λ fs. rename_at fs p.0 target.tree from.now
         target.path.names (standing_at (tree_in fs target.tree) from.now))
         (ReadsFailed false (R.state rig.old) (R.state rig.new)) 52 3
         trees.old trees.new handles.now handles.now (R.state rig.old) (R.state rig.new) result }
+    ensures rises { MakesFourIfDone R.keeps_cuts
+        (R.state rig.old) (R.state rig.new) result }
 {
     if handles.holds_file(p, target.tree, file) {
         return Ok(refusal(Errno::Ebusy));
@@ -104,10 +108,12 @@ fn rename_spot<R: Rig>(
     requires within { target.tree < length trees.old }
     requires found { AtTree trees.old target.tree (λ store.
         IsSpotAt (names_of store) from.now spot) }
-    ensures { IsServed R.tells_view (λ fs. rename_at fs p.0 target.tree from.now
+    ensures served { IsServed R.tells_view (λ fs. rename_at fs p.0 target.tree from.now
         target.path.names (standing_at (tree_in fs target.tree) from.now))
         (ReadsFailed false (R.state rig.old) (R.state rig.new)) 52 3
         trees.old trees.new handles.now handles.now (R.state rig.old) (R.state rig.new) result }
+    ensures rises { MakesFourIfDone R.keeps_cuts
+        (R.state rig.old) (R.state rig.new) result }
 {
     let file = match spot {
         Spot::Free { .. } => return Ok(refusal(Errno::Enoent)),
@@ -135,9 +141,11 @@ pub fn rename_file<R: Rig>(
     requires caller { p.0 < length handles.now }
     requires of_table { AreOfTable table.now trees.old handles.now }
     requires serving { AreInService R.tells_view (R.state rig.old) trees.old handles.now }
-    ensures { IsServed R.tells_view (λ fs. rename_step table.now fs p.0 from.now to.now)
+    ensures served { IsServed R.tells_view (λ fs. rename_step table.now fs p.0 from.now to.now)
         (ReadsFailed false (R.state rig.old) (R.state rig.new)) 52 3
         trees.old trees.new handles.now handles.now (R.state rig.old) (R.state rig.new) result }
+    ensures rises { MakesFourIfDone R.keeps_cuts
+        (R.state rig.old) (R.state rig.new) result }
 {
     let source = match place_of(table, Right::Owner, p, from) {
         Err(errno) => return Ok(refusal(errno)),

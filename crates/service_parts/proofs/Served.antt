@@ -1,17 +1,21 @@
 -- When calls are served: refused, or carried out.
-use Rattle.std.proofs.Common.{◌≡◌, Bool, true, false, List, Option, Some, None, refl, sym, ◌∙◌, ap, subst}
-use Rattle.std.specs.Prelude.{is_some}
+use Rattle.std.proofs.Common.{◌≡◌, ◌≢◌, Bool, true, false, List, Option, Some, None, refl, sym, ◌∙◌, ap, subst}
+use Rattle.std.specs.Prelude.{is_some, Ok}
+use Rattle.apex_types.specs.Codes.{code_of_errno}
 use Rattle.apex_types.specs.Rows.{Rows}
 use Rattle.apex_types.specs.declared.codes.Errno.{Errno}
+use Rattle.apex_types.specs.declared.codes.Errno.TheVariants.{Eperm, Einval, Enametoolong, Ebadf, Enoent, Enotdir, Eisdir, Eexist, Eacces, Enospc, Emfile, Efbig, Eoverflow, Ebusy, Estale, Enotempty, Eio}
+use Rattle.apex_types.specs.declared.codes.ReturnCode.TheVariants.{NoError}
 use Rattle.apex_types.specs.declared.replies.Reply.{Reply}
 use Rattle.apex_types.specs.declared.replies.Values.{Values}
 use Rattle.apex_model.specs.FileSystem.{FileSystem}
 use Rattle.apex_model.specs.Outcomes.{Outcome, accepted, success, refusal, reply_of, state_after, refuse}
 use Rattle.open_handles.specs.NodeHandles.{AllHandles}
+use Rattle.rig_core.specs.Outside.{Outside}
 use Rattle.store_model.specs.Stores.{StoreValue}
 use Rattle.store_model.specs.Systems.{Stands, IsOfTable}
 use Rattle.tree_store.specs.Serving.{IsAccepting}
-use Rattle.service_parts.specs.Serving.{Serves}
+use Rattle.service_parts.specs.Serving.{MakesFourIfDone, Serves}
 use Rattle.service_parts.specs.Told.{IsTellable}
 
 -- what a test of an option says of it
@@ -36,6 +40,30 @@ accepting {step} {stores} {handles} {values} {fs} goes = (goes.after, values, go
 -- what is carried out can be told
 pub success-told : {values : Values} {told : Reply} → told ≡ success values → IsTellable told
 success-told {values} {told} is = subst (λ (r : Reply). IsTellable r) (sym is) (λ data_there. refl)
+
+-- a refusal has another code than what is carried out
+refusal-code : (e : Errno) → code_of_errno e ≢ NoError
+refusal-code Eperm is = absurd cc
+refusal-code Einval is = absurd cc
+refusal-code Enametoolong is = absurd cc
+refusal-code Ebadf is = absurd cc
+refusal-code Enoent is = absurd cc
+refusal-code Enotdir is = absurd cc
+refusal-code Eisdir is = absurd cc
+refusal-code Eexist is = absurd cc
+refusal-code Eacces is = absurd cc
+refusal-code Enospc is = absurd cc
+refusal-code Emfile is = absurd cc
+refusal-code Efbig is = absurd cc
+refusal-code Eoverflow is = absurd cc
+refusal-code Ebusy is = absurd cc
+refusal-code Estale is = absurd cc
+refusal-code Enotempty is = absurd cc
+refusal-code Eio is = absurd cc
+
+-- so what is refused makes as many calls as may be
+pub refused-makes : (K : Type 0) (o e : Outside) (told : Reply) (errno : Errno) → told ≡ refusal errno → MakesFourIfDone K o e (Ok told)
+refused-makes K o e told errno is kept done = absurd (refusal-code errno (sym (ap (λ (r : Reply). r.code) is) ∙ done))
 
 module _ (step : FileSystem → Outcome FileSystem) (stores : List StoreValue) (handles : AllHandles) where
   -- a refusal leaves all as it was

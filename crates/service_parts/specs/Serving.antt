@@ -1,7 +1,9 @@
 -- What a call to the services comes to, over values of stores and over stored trees.
-use Rattle.std.specs.Prelude.{◌≡◌, ◌⊎◌, ℕ, Bool, true, false, List, length, map, Result, IfOk, OnOk, OnErr}
+use Rattle.std.specs.Prelude.{◌≡◌, ◌⊎◌, ℕ, ◌+◌, ◌≤◌, Bool, true, false, List, length, map, Some, Result, IfOk, OnOk, OnErr}
 use Rattle.std.specs.List.{AllZip}
 use Rattle.apex_types.specs.Rows.{Rows}
+use Rattle.apex_types.specs.declared.codes.Errno.TheVariants.{Eio}
+use Rattle.apex_types.specs.declared.codes.ReturnCode.TheVariants.{NoError}
 use Rattle.apex_types.specs.declared.replies.Reply.{Reply}
 use Rattle.apex_model.specs.Accepted.{IsAccepted}
 use Rattle.apex_model.specs.FileSystem.{FileSystem}
@@ -63,6 +65,14 @@ pub record AreInService (tells_view : Type 0) (o : Outside) (trees : List TreeSt
 abbrev pub ReadsFailed : Bool → Outside → Outside → Type 0
 ReadsFailed true o e = Rose o.read_faults e.read_faults
 ReadsFailed false o e = ⊥
+
+-- a reply of EIO comes only where a read failed
+abbrev pub EioOnlyIfRead : Outside → Outside → Reply → Type 0
+EioOnlyIfRead o e told = told.errno ≡ Some Eio → Rose o.read_faults e.read_faults
+
+-- where cuts are kept, a reply without an error comes only after four calls of the device at least
+abbrev pub MakesFourIfDone : Type 0 → Outside → Outside → Result Reply DeviceFault → Type 0
+MakesFourIfDone keeps_cuts o e result = keeps_cuts → IfOk result (λ told. told.code ≡ NoError → o.clock + 4 ≤ e.clock)
 
 -- A call was served on a rig that went from o to e. Only a write or sync that failed is a fault.
 pub record IsServed (tells_view : Type 0) (step : FileSystem → Outcome FileSystem) (reads : Type 0) (writes syncs : ℕ) (trees new_trees : List TreeStore) (handles new_handles : AllHandles)

@@ -1,6 +1,6 @@
 -- What every change of names makes of a stored tree.
 use Rattle.std.proofs.Common.{◌≡◌, ◌⊎◌, inl, inr, ⊎_elim, ℕ, ◌+◌, ◌*◌, ◌<◌, ◌≤◌, true, false, cond, List, length, refl, sym, ap, subst, ◌∙◌, Some, None, arith}
-use Rattle.std.specs.Prelude.{◌==◌, ◌&&◌, nat_lt}
+use Rattle.std.specs.Prelude.{Err, Ok, Result, ◌==◌, ◌&&◌, nat_lt}
 use Rattle.std.proofs.lemmas.Bool.{false≢true}
 use Rattle.std.proofs.lemmas.Bool.Decides.{nat_tests}
 use Rattle.apex_model.specs.Durable.{StoredFile}
@@ -22,6 +22,8 @@ use Rattle.tree_state.proofs.NameStates.{nothing-changed}
 use Rattle.store_model.specs.Betweens.{tree_long}
 use Rattle.store_model.specs.Stores.{StoreValue, durable_of, with_names}
 use Rattle.tree_store.specs.Answers.{Acts, Passes, name_calls}
+use Rattle.tree_store.specs.Calls.{MakesFour}
+use Rattle.tree_store.specs.Naming.{RisesBy}
 use Rattle.tree_store.specs.Stored.{AreSpelled, Holds, IsBetween, IsStored, has_room, row_of, site_of, start_of}
 use Rattle.tree_store.specs.declared.store.TreeStore.{TreeStore}
 
@@ -43,6 +45,11 @@ calls-made s P first second =
       | true ↦ λ is. first (both-hold s.state.kept.version (journal.room_of s.state.kept.journal) is)
       | false ↦ λ is. second (λ has. false≢true (sym is ∙ two-tests s.state.kept.version (journal.room_of s.state.kept.journal) has.0 has.1))
     ]) refl
+
+-- they are four at least
+pub four-made : {T E : Type 0} (K : Type 0) (o e : Outside) (s : TreeStore) (result : Result T E) → RisesBy K o e s result → MakesFour K o e result
+four-made K o e s (Ok done) rises kept = let four = calls-made s (λ n. 4 ≤ n) (λ room. omega arith) (λ full. omega arith) in omega (arith, four, rises kept)
+four-made K o e s (Err fault) rises kept = tt
 
 -- ---- at every moment
 

@@ -1,5 +1,5 @@
 -- What a call on one of several stored trees needs, and what it comes to for all of them.
-use Rattle.std.specs.Prelude.{◌≡◌, ℕ, ◌<◌, List, length, map, Option, Some, None, Result, Ok, Err, slice_get, slice_set}
+use Rattle.std.specs.Prelude.{◌≡◌, ℕ, ◌+◌, ◌<◌, ◌≤◌, List, length, map, Option, Some, None, Result, Ok, Err, OnOk, slice_get, slice_set}
 use Rattle.std.specs.List.{AllZip}
 use Rattle.apex_types.specs.declared.codes.Errno.{Errno}
 use Rattle.apex_model.specs.Files.{File}
@@ -64,6 +64,10 @@ PassesAt tells_view tree old word o e = (stores : List StoreValue) (before : Lis
 -- what they held they hold
 abbrev pub StayHeld : Type 0 → Outside → Outside → List TreeStore → List TreeStore → Type 0
 StayHeld tells_view o e old new = (stores : List StoreValue) → AllHold tells_view o old stores → AllHold tells_view e new stores
+
+-- where cuts are kept, a call that comes to its end makes four calls of the device at least
+abbrev pub MakesFour : {T E : Type 0} → Type 0 → Outside → Outside → Result T E → Type 0
+MakesFour keeps_cuts o e result = keeps_cuts → OnOk result (o.clock + 4 ≤ e.clock)
 
 -- No tree moves, and the call stays within their regions, with so many writes and syncs at most.
 pub record ActsAt (tells_view : Type 0) (writes syncs : ℕ) (o e : Outside) (old new : List TreeStore) : Type 0 where

@@ -8,7 +8,7 @@ ghost use Rattle.rig_core.specs.Outside.{OnlyReads};
 ghost use Rattle.store_model.specs.Stores.{StoreValue, kept_at, total, synchronised_store};
 ghost use Rattle.store_model.specs.Systems.{store_at};
 ghost use Rattle.tree_store.specs.Answers.{write_refusal, written_store, resize_refusal, resized_store, file_refusal, directory_refusal, removal_refusal, made_file, made_directory, removed_file, removed_directory, renamed_file, UnlessDevice};
-ghost use Rattle.tree_store.specs.Calls.{ActsAt, AreReady, AtTree, ComesToAt, DoneToAt, NamesToAt, PassesAt, StayHeld};
+ghost use Rattle.tree_store.specs.Calls.{ActsAt, AreReady, AtTree, ComesToAt, DoneToAt, MakesFour, NamesToAt, PassesAt, StayHeld};
 ghost use Rattle.tree_store.specs.Naming.{HasDirectory, HasFile, IsFree, IsShallow};
 ghost use Rattle.tree_store.specs.Serving.{AllHold, AreStored};
 ghost use Rattle.tree_store.specs.Stored.{row_of, names_of, size_at, changes_at, charges_of, buffers_of};
@@ -216,6 +216,7 @@ impl Trees {
         ensures stored { UnlessDevice result (AreStored R.tells_view (R.state rig.new) self.new) }
         ensures acts { ActsAt R.tells_view 4 3 (R.state rig.old) (R.state rig.new)
             self.old self.new }
+        ensures rises { MakesFour R.keeps_cuts (R.state rig.old) (R.state rig.new) result }
     {
         self.stores[tree as usize].make_file(rig, parent, name)
     }
@@ -243,6 +244,7 @@ impl Trees {
         ensures stored { UnlessDevice result (AreStored R.tells_view (R.state rig.new) self.new) }
         ensures acts { ActsAt R.tells_view 4 3 (R.state rig.old) (R.state rig.new)
             self.old self.new }
+        ensures rises { MakesFour R.keeps_cuts (R.state rig.old) (R.state rig.new) result }
     {
         self.stores[tree as usize].make_dir(rig, parent, name)
     }
@@ -266,6 +268,7 @@ impl Trees {
         ensures stored { UnlessDevice result (AreStored R.tells_view (R.state rig.new) self.new) }
         ensures acts { ActsAt R.tells_view 4 3 (R.state rig.old) (R.state rig.new)
             self.old self.new }
+        ensures rises { MakesFour R.keeps_cuts (R.state rig.old) (R.state rig.new) result }
     {
         self.stores[tree as usize].remove_dir(rig, directory)
     }
@@ -286,6 +289,7 @@ impl Trees {
         ensures stored { OnOk result (AreStored R.tells_view (R.state rig.new) self.new) }
         ensures acts { ActsAt R.tells_view 4 3 (R.state rig.old) (R.state rig.new)
             self.old self.new }
+        ensures rises { MakesFour R.keeps_cuts (R.state rig.old) (R.state rig.new) result }
     {
         self.stores[tree as usize].remove_file(rig, file)
     }
@@ -312,6 +316,7 @@ impl Trees {
         ensures stored { OnOk result (AreStored R.tells_view (R.state rig.new) self.new) }
         ensures acts { ActsAt R.tells_view 4 3 (R.state rig.old) (R.state rig.new)
             self.old self.new }
+        ensures rises { MakesFour R.keeps_cuts (R.state rig.old) (R.state rig.new) result }
     {
         self.stores[tree as usize].rename(rig, file, parent, name)
     }

@@ -37,7 +37,7 @@ returns-then-not-ready-clause-served g c =
     (λ fs s. not_ready c.args.table.now c.args.p.0 c.args.ready c.args.call.now c.if-not-ready.true fs)))
 
 pub returns-clause-served : goal.returns-clause-served
-returns-clause-served g c = served_step (λ fs over. is_ready c.args.table.now c.args.p.0 c.args.ready c.args.call.now c.if-not-ready.false fs) c.serve.ensures
+returns-clause-served g c = served_step (λ fs over. is_ready c.args.table.now c.args.p.0 c.args.ready c.args.call.now c.if-not-ready.false fs) c.serve.ensures.served
 
 pub returns-clause-serving : goal.returns-clause-serving
 returns-clause-serving g c =

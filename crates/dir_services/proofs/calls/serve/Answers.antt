@@ -14,8 +14,8 @@ read_directory-requires-clause-seen g c =
 pub make_directory-requires-clause-serving : goal.make_directory-requires-clause-serving
 make_directory-requires-clause-serving g c = (c.args.handles.now, c.requires.of_table, c.requires.serving)
 
-pub returns-in-OpenDirectory : goal.returns-in-OpenDirectory
-returns-in-OpenDirectory g c =
+pub returns-in-OpenDirectory-clause-served : goal.returns-in-OpenDirectory-clause-served
+returns-in-OpenDirectory-clause-served g c =
     let V = g.R.Rig.tells_view in
     let o = g.R.Rig.state c.args.rig.now in
     let trees = c.args.trees.now in
@@ -28,8 +28,8 @@ returns-in-OpenDirectory g c =
     (λ stores hold. subst (λ (path : List ℕ). Serves (λ fs. open_directory c.args.table.now fs c.args.p.0 path) stores handles stores new told) c.bytes.ensures
     (c.open_directory.ensures stores (all_outlined V o trees stores hold))))
 
-pub returns-in-CloseDirectory : goal.returns-in-CloseDirectory
-returns-in-CloseDirectory g c =
+pub returns-in-CloseDirectory-clause-served : goal.returns-in-CloseDirectory-clause-served
+returns-in-CloseDirectory-clause-served g c =
     let V = g.R.Rig.tells_view in
     let o = g.R.Rig.state c.args.rig.now in
     let trees = c.args.trees.now in
@@ -39,8 +39,8 @@ returns-in-CloseDirectory g c =
     (served_still V g.R.Rig.keeps_cuts o (g.met.R.Rig.sound c.args.rig.now) (λ fs. close_directory fs c.args.p.0 c.in-CloseDirectory.id) ⊥ trees handles c.requires.serving c.close_directory.new.handles c.close_directory.result
     (λ stores hold. c.close_directory.ensures stores))
 
-pub returns-in-ReadDirectory : goal.returns-in-ReadDirectory
-returns-in-ReadDirectory g c =
+pub returns-in-ReadDirectory-clause-served : goal.returns-in-ReadDirectory-clause-served
+returns-in-ReadDirectory-clause-served g c =
     let V = g.R.Rig.tells_view in
     let o = g.R.Rig.state c.args.rig.now in
     let trees = c.args.trees.now in
@@ -50,8 +50,8 @@ returns-in-ReadDirectory g c =
     (served_still V g.R.Rig.keeps_cuts o (g.met.R.Rig.sound c.args.rig.now) (λ fs. read_directory fs c.args.p.0 c.in-ReadDirectory.id) ⊥ trees handles c.requires.serving c.read_directory.new.handles c.read_directory.result
     (λ stores hold. c.read_directory.ensures stores (all_outlined V o trees stores hold)))
 
-pub returns-in-RewindDirectory : goal.returns-in-RewindDirectory
-returns-in-RewindDirectory g c =
+pub returns-in-RewindDirectory-clause-served : goal.returns-in-RewindDirectory-clause-served
+returns-in-RewindDirectory-clause-served g c =
     let V = g.R.Rig.tells_view in
     let o = g.R.Rig.state c.args.rig.now in
     let trees = c.args.trees.now in
@@ -61,8 +61,8 @@ returns-in-RewindDirectory g c =
     (served_still V g.R.Rig.keeps_cuts o (g.met.R.Rig.sound c.args.rig.now) (λ fs. rewind_directory fs c.args.p.0 c.in-RewindDirectory.id) ⊥ trees handles c.requires.serving c.rewind_directory.new.handles c.rewind_directory.result
     (λ stores hold. c.rewind_directory.ensures stores))
 
-pub returns-in-SyncDirectory : goal.returns-in-SyncDirectory
-returns-in-SyncDirectory g c =
+pub returns-in-SyncDirectory-clause-served : goal.returns-in-SyncDirectory-clause-served
+returns-in-SyncDirectory-clause-served g c =
     let V = g.R.Rig.tells_view in
     let o = g.R.Rig.state c.args.rig.now in
     let trees = c.args.trees.now in
@@ -72,8 +72,8 @@ returns-in-SyncDirectory g c =
     (served_still V g.R.Rig.keeps_cuts o (g.met.R.Rig.sound c.args.rig.now) (λ fs. sync_directory fs c.args.p.0 c.in-SyncDirectory.id) ⊥ trees handles c.requires.serving handles c.sync_directory.result
     (λ stores hold. c.sync_directory.ensures stores))
 
-pub returns-in-MakeDirectory : goal.returns-in-MakeDirectory
-returns-in-MakeDirectory g c =
+pub returns-in-MakeDirectory-clause-served : goal.returns-in-MakeDirectory-clause-served
+returns-in-MakeDirectory-clause-served g c =
     let V = g.R.Rig.tells_view in
     let o = g.R.Rig.state c.args.rig.now in
     let e = g.R.Rig.state c.make_directory.new.rig in
@@ -83,10 +83,10 @@ returns-in-MakeDirectory g c =
     = λ call. IsServed V (λ fs. directory_service c.args.table.now fs c.args.p.0 call) ⊥ 52 3 trees c.make_directory.new.trees handles handles o e c.make_directory.result in
     subst P (sym c.in-MakeDirectory.is)
     (subst (λ (path : List ℕ). IsServed V (λ fs. make_directory c.args.table.now fs c.args.p.0 path) ⊥ 52 3 trees c.make_directory.new.trees handles handles o e c.make_directory.result) c.bytes-in-MakeDirectory.ensures
-    (c.make_directory.ensures handles c.requires.of_table c.requires.serving))
+    (c.make_directory.ensures.served handles c.requires.of_table c.requires.serving))
 
-pub returns-in-RemoveDirectory : goal.returns-in-RemoveDirectory
-returns-in-RemoveDirectory g c =
+pub returns-in-RemoveDirectory-clause-served : goal.returns-in-RemoveDirectory-clause-served
+returns-in-RemoveDirectory-clause-served g c =
     let V = g.R.Rig.tells_view in
     let o = g.R.Rig.state c.args.rig.now in
     let e = g.R.Rig.state c.remove_directory.new.rig in
@@ -96,4 +96,4 @@ returns-in-RemoveDirectory g c =
     = λ call. IsServed V (λ fs. directory_service c.args.table.now fs c.args.p.0 call) ⊥ 52 3 trees c.remove_directory.new.trees handles c.remove_directory.new.handles o e c.remove_directory.result in
     subst P (sym c.in-RemoveDirectory.is)
     (subst (λ (path : List ℕ). IsServed V (λ fs. remove_directory c.args.table.now fs c.args.p.0 path) ⊥ 52 3 trees c.remove_directory.new.trees handles c.remove_directory.new.handles o e c.remove_directory.result) c.bytes-in-RemoveDirectory.ensures
-    c.remove_directory.ensures)
+    c.remove_directory.ensures.served)

@@ -10,8 +10,8 @@ use Rattle.dir_services.proofs.MakingLaws.{make_path-refused, make_path-blocked,
 use Rattle.dir_services.proofs.PathLaws.{within_trees, within_stores}
 use Rattle.dir_services.proofs.making.make_directory.Goals as goal
 
-pub returns-in-Err : goal.returns-in-Err
-returns-in-Err g c = λ handles of ready.
+pub returns-in-Err-clause-served : goal.returns-in-Err-clause-served
+returns-in-Err-clause-served g c = λ handles of ready.
     let V = g.R.Rig.tells_view in
     let o = g.R.Rig.state c.args.rig.now in
     served_still V g.R.Rig.keeps_cuts o (g.met.R.Rig.sound c.args.rig.now) (λ fs. make_step c.args.table.now fs c.args.p.0 c.args.path.now) ⊥ c.args.trees.now handles ready handles c.refusal.result
@@ -29,8 +29,8 @@ make_spot-requires-clause-serving g c = (c.requires.serving.0, c.requires.servin
 pub make_spot-requires-clause-found : goal.make_spot-requires-clause-found
 make_spot-requires-clause-found g c = λ store at. subst (λ (v : TreeValue). IsSpotAt v c.in-Ok.place.path.names c.in-Ok-walk.spot) (c.tree.ensures store at) c.in-Ok-walk.ensures.spot
 
-pub returns-in-Err-walk : goal.returns-in-Err-walk
-returns-in-Err-walk g c = λ handles of ready.
+pub returns-in-Err-walk-clause-served : goal.returns-in-Err-walk-clause-served
+returns-in-Err-walk-clause-served g c = λ handles of ready.
     let V = g.R.Rig.tells_view in
     let o = g.R.Rig.state c.args.rig.now in
     let trees = c.args.trees.now in
@@ -43,8 +43,8 @@ returns-in-Err-walk g c = λ handles of ready.
     served-told c.refusal-in-Err-walk.ensures
     (make_path-blocked c.args.table.now stores handles c.args.p.0 c.args.path.now place c.in-Ok.ensures.place (within_stores trees stores all place.tree low) c.in-Err-walk.errno met))
 
-pub returns-in-Ok-walk : goal.returns-in-Ok-walk
-returns-in-Ok-walk g c = λ handles of ready.
+pub returns-in-Ok-walk-clause-served : goal.returns-in-Ok-walk-clause-served
+returns-in-Ok-walk-clause-served g c = λ handles of ready.
     let V = g.R.Rig.tells_view in
     let o = g.R.Rig.state c.args.rig.now in
     let trees = c.args.trees.now in
@@ -54,4 +54,4 @@ returns-in-Ok-walk g c = λ handles of ready.
     let all = all_outlined V o trees over.0 over.1 in
     let met = ap (λ (v : TreeValue). walk v.nodes place.names) (sym (tree_of trees over.0 all place.tree low c.tree.result.now c.tree.ensures)) ∙ c.in-Ok-walk.ensures.obstacle in
     make_path-leads c.args.table.now over.0 handles c.args.p.0 c.args.path.now place c.in-Ok.ensures.place (within_stores trees over.0 all place.tree low) met fs over.2)
-    (c.make_spot.ensures c.args.table.now handles of ready)
+    (c.make_spot.ensures.served c.args.table.now handles of ready)

@@ -43,8 +43,8 @@ make_dir-requires-clause-free g c = λ store at.
     ap (standing_at (names_of store).nodes) (path-whole (names_of store) c.args.parent c.args.place.path.names c.last_name-name.result (c.requires.free store at) c.last_name-name.ensures.last)
     ∙ (c.requires.free store at).1
 
-pub returns-in-Ok : goal.returns-in-Ok
-returns-in-Ok g c = λ table handles of ready.
+pub returns-in-Ok-clause-served : goal.returns-in-Ok-clause-served
+returns-in-Ok-clause-served g c = λ table handles of ready.
     let V = g.R.Rig.tells_view in
     let K = g.R.Rig.keeps_cuts in
     let o = g.R.Rig.state c.args.rig.now in
@@ -61,8 +61,8 @@ returns-in-Ok g c = λ table handles of ready.
     handles c.success.result c.in-Ok.ensures.stored
     (λ stores hold. (slice_set stores place.tree (word (store_at stores place.tree)), (c.in-Ok.ensures.answer stores hold).1, served-told c.success.ensures (serves stores hold)))
 
-pub returns-in-Err-Refused : goal.returns-in-Err-Refused
-returns-in-Err-Refused g c = λ table handles of ready.
+pub returns-in-Err-Refused-clause-served : goal.returns-in-Err-Refused-clause-served
+returns-in-Err-Refused-clause-served g c = λ table handles of ready.
     let V = g.R.Rig.tells_view in
     let K = g.R.Rig.keeps_cuts in
     let o = g.R.Rig.state c.args.rig.now in
@@ -78,8 +78,8 @@ returns-in-Err-Refused g c = λ table handles of ready.
     (λ stores hold. served-told (c.refusal.ensures ∙ ap (λ (e : Errno). refusal e) c.in-Err-Refused.errno-is)
     (make-refuses V o table trees handles of ready.stored place c.requires.within c.args.parent c.requires.free name c.last_name-name.ensures.last c.last_name-name.ensures.few stores hold c.in-Err-Refused.errno (refused stores hold).0))
 
-pub returns-in-Err-Device : goal.returns-in-Err-Device
-returns-in-Err-Device g c = λ table handles of ready.
+pub returns-in-Err-Device-clause-served : goal.returns-in-Err-Device-clause-served
+returns-in-Err-Device-clause-served g c = λ table handles of ready.
     let V = g.R.Rig.tells_view in
     let K = g.R.Rig.keeps_cuts in
     let o = g.R.Rig.state c.args.rig.now in

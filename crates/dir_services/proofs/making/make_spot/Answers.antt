@@ -14,8 +14,8 @@ use Rattle.dir_services.proofs.making.make_spot.Goals as goal
 pub make_in-requires-clause-free : goal.make_in-requires-clause-free
 make_in-requires-clause-free g c = λ store at. subst (λ (spot : Spot). IsSpotAt (names_of store) c.args.place.path.names spot) c.in-Free.is (c.requires.found store at)
 
-pub returns-in-Root : goal.returns-in-Root
-returns-in-Root g c = λ table handles of ready.
+pub returns-in-Root-clause-served : goal.returns-in-Root-clause-served
+returns-in-Root-clause-served g c = λ table handles of ready.
     let V = g.R.Rig.tells_view in
     let o = g.R.Rig.state c.args.rig.now in
     let trees = c.args.trees.now in
@@ -26,8 +26,8 @@ returns-in-Root g c = λ table handles of ready.
     let found = at_value trees stores all (λ (v : TreeValue). IsSpotAt v place.names c.args.spot) place.tree c.requires.within c.requires.found in
     served-told c.refusal.ensures (make-root table stores handles place (within_stores trees stores all place.tree c.requires.within) c.args.spot found c.in-Root.is))
 
-pub returns-in-Directory : goal.returns-in-Directory
-returns-in-Directory g c = λ table handles of ready.
+pub returns-in-Directory-clause-served : goal.returns-in-Directory-clause-served
+returns-in-Directory-clause-served g c = λ table handles of ready.
     let V = g.R.Rig.tells_view in
     let o = g.R.Rig.state c.args.rig.now in
     let trees = c.args.trees.now in
@@ -39,8 +39,8 @@ returns-in-Directory g c = λ table handles of ready.
     served-told c.refusal-in-Directory.ensures
     (make-directory table stores handles place (within_stores trees stores all place.tree c.requires.within) c.args.spot found c.in-Directory.parent c.in-Directory.node c.in-Directory.name c.in-Directory.is))
 
-pub returns-in-File : goal.returns-in-File
-returns-in-File g c = λ table handles of ready.
+pub returns-in-File-clause-served : goal.returns-in-File-clause-served
+returns-in-File-clause-served g c = λ table handles of ready.
     let V = g.R.Rig.tells_view in
     let o = g.R.Rig.state c.args.rig.now in
     let trees = c.args.trees.now in

@@ -25,8 +25,8 @@ remove_dir-requires-clause-ready g c =
 pub remove_dir-requires-clause-in_use : goal.remove_dir-requires-clause-in_use
 remove_dir-requires-clause-in_use g c = λ store at. is_some (c.requires.stands store at)
 
-pub returns-in-Ok : goal.returns-in-Ok
-returns-in-Ok g c =
+pub returns-in-Ok-clause-served : goal.returns-in-Ok-clause-served
+returns-in-Ok-clause-served g c =
     let V = g.R.Rig.tells_view in
     let K = g.R.Rig.keeps_cuts in
     let o = g.R.Rig.state c.args.rig.now in
@@ -44,8 +44,8 @@ returns-in-Ok g c =
     c.directory_gone.new.self c.success.result c.in-Ok.ensures.stored
     (λ stores hold. (slice_set stores place.tree (word (store_at stores place.tree)), (c.in-Ok.ensures.answer stores hold).1, served-new refl c.directory_gone.ensures c.success.ensures (serves stores hold)))
 
-pub returns-in-Err-Refused : goal.returns-in-Err-Refused
-returns-in-Err-Refused g c =
+pub returns-in-Err-Refused-clause-served : goal.returns-in-Err-Refused-clause-served
+returns-in-Err-Refused-clause-served g c =
     let V = g.R.Rig.tells_view in
     let K = g.R.Rig.keeps_cuts in
     let o = g.R.Rig.state c.args.rig.now in
@@ -62,8 +62,8 @@ returns-in-Err-Refused g c =
     (λ stores hold. served-told (c.refusal.ensures ∙ ap (λ (e : Errno). refusal e) c.in-Err-Refused.errno-is)
     (remove-refuses V o trees handles c.args.p.0 place c.requires.within c.args.found c.requires.below_root c.requires.stands c.requires.closed stores hold c.in-Err-Refused.errno (refused stores hold).0))
 
-pub returns-in-Err-Device : goal.returns-in-Err-Device
-returns-in-Err-Device g c =
+pub returns-in-Err-Device-clause-served : goal.returns-in-Err-Device-clause-served
+returns-in-Err-Device-clause-served g c =
     let V = g.R.Rig.tells_view in
     let K = g.R.Rig.keeps_cuts in
     let o = g.R.Rig.state c.args.rig.now in

@@ -10,8 +10,8 @@ use Rattle.dir_services.proofs.PathLaws.{within_trees, within_stores}
 use Rattle.dir_services.proofs.RemovingLaws.{remove_path-refused, remove_path-blocked, remove_path-leads}
 use Rattle.dir_services.proofs.removing.remove_directory.Goals as goal
 
-pub returns-in-Err : goal.returns-in-Err
-returns-in-Err g c =
+pub returns-in-Err-clause-served : goal.returns-in-Err-clause-served
+returns-in-Err-clause-served g c =
     let V = g.R.Rig.tells_view in
     let o = g.R.Rig.state c.args.rig.now in
     let handles = c.args.handles.now in
@@ -27,8 +27,8 @@ remove_spot-requires-clause-within g c = within_trees c.args.table.now c.args.tr
 pub remove_spot-requires-clause-found : goal.remove_spot-requires-clause-found
 remove_spot-requires-clause-found g c = λ store at. subst (λ (v : TreeValue). IsSpotAt v c.in-Ok.place.path.names c.in-Ok-walk.spot) (c.tree.ensures store at) c.in-Ok-walk.ensures.spot
 
-pub returns-in-Err-walk : goal.returns-in-Err-walk
-returns-in-Err-walk g c =
+pub returns-in-Err-walk-clause-served : goal.returns-in-Err-walk-clause-served
+returns-in-Err-walk-clause-served g c =
     let V = g.R.Rig.tells_view in
     let o = g.R.Rig.state c.args.rig.now in
     let trees = c.args.trees.now in
@@ -42,8 +42,8 @@ returns-in-Err-walk g c =
     served-told c.refusal-in-Err-walk.ensures
     (remove_path-blocked c.args.table.now stores handles c.args.p.0 c.args.path.now place c.in-Ok.ensures.place (within_stores trees stores all place.tree low) c.in-Err-walk.errno met))
 
-pub returns-in-Ok-walk : goal.returns-in-Ok-walk
-returns-in-Ok-walk g c =
+pub returns-in-Ok-walk-clause-served : goal.returns-in-Ok-walk-clause-served
+returns-in-Ok-walk-clause-served g c =
     let V = g.R.Rig.tells_view in
     let o = g.R.Rig.state c.args.rig.now in
     let trees = c.args.trees.now in
@@ -54,4 +54,4 @@ returns-in-Ok-walk g c =
     let all = all_outlined V o trees over.0 over.1 in
     let met = ap (λ (v : TreeValue). walk v.nodes place.names) (sym (tree_of trees over.0 all place.tree low c.tree.result.now c.tree.ensures)) ∙ c.in-Ok-walk.ensures.obstacle in
     remove_path-leads c.args.table.now over.0 handles c.args.p.0 c.args.path.now place c.in-Ok.ensures.place (within_stores trees over.0 all place.tree low) met fs over.2)
-    c.remove_spot.ensures
+    c.remove_spot.ensures.served

@@ -13,8 +13,8 @@ use Rattle.dir_services.proofs.PathLaws.{directory-path, within_stores}
 use Rattle.dir_services.proofs.RemovingLaws.{below_root, remove-nothing, remove-file, remove-root, remove-busy, remove-directory, found-below}
 use Rattle.dir_services.proofs.removing.remove_spot.Goals as goal
 
-pub returns-in-Free : goal.returns-in-Free
-returns-in-Free g c =
+pub returns-in-Free-clause-served : goal.returns-in-Free-clause-served
+returns-in-Free-clause-served g c =
     let V = g.R.Rig.tells_view in
     let o = g.R.Rig.state c.args.rig.now in
     let trees = c.args.trees.now in
@@ -26,8 +26,8 @@ returns-in-Free g c =
     let found = at_value trees stores all (λ (v : TreeValue). IsSpotAt v place.names c.args.spot) place.tree c.requires.within c.requires.found in
     served-told c.refusal.ensures (remove-nothing stores handles c.args.p.0 place (within_stores trees stores all place.tree c.requires.within) c.args.spot found c.in-Free.parent c.in-Free.is))
 
-pub returns-in-File : goal.returns-in-File
-returns-in-File g c =
+pub returns-in-File-clause-served : goal.returns-in-File-clause-served
+returns-in-File-clause-served g c =
     let V = g.R.Rig.tells_view in
     let o = g.R.Rig.state c.args.rig.now in
     let trees = c.args.trees.now in
@@ -40,8 +40,8 @@ returns-in-File g c =
     served-told c.refusal-in-File.ensures
     (remove-file stores handles c.args.p.0 place (within_stores trees stores all place.tree c.requires.within) c.args.spot found c.in-File.parent c.in-File.node c.in-File.name c.in-File.is))
 
-pub returns-in-Root : goal.returns-in-Root
-returns-in-Root g c =
+pub returns-in-Root-clause-served : goal.returns-in-Root-clause-served
+returns-in-Root-clause-served g c =
     let V = g.R.Rig.tells_view in
     let o = g.R.Rig.state c.args.rig.now in
     let trees = c.args.trees.now in
@@ -53,8 +53,8 @@ returns-in-Root g c =
     let found = at_value trees stores all (λ (v : TreeValue). IsSpotAt v place.names c.args.spot) place.tree c.requires.within c.requires.found in
     served-told c.refusal-in-Root.ensures (remove-root stores handles c.args.p.0 place (within_stores trees stores all place.tree c.requires.within) c.args.spot found c.in-Root.is))
 
-pub returns-then-holds_directory : goal.returns-then-holds_directory
-returns-then-holds_directory g c =
+pub returns-then-holds_directory-clause-served : goal.returns-then-holds_directory-clause-served
+returns-then-holds_directory-clause-served g c =
     let V = g.R.Rig.tells_view in
     let o = g.R.Rig.state c.args.rig.now in
     let trees = c.args.trees.now in
@@ -87,8 +87,8 @@ remove_closed-requires-clause-below_root g c =
     let found = subst P c.in-Directory.is (c.requires.found tree.0 tree.1) in
     below_root (names_of tree.0) c.in-Directory.node.0 _ c.in-Directory.name c.args.place.path.names found.2 found.1
 
-pub returns : goal.returns
-returns g c =
+pub returns-clause-served : goal.returns-clause-served
+returns-clause-served g c =
     let V = g.R.Rig.tells_view in
     let o = g.R.Rig.state c.args.rig.now in
     let trees = c.args.trees.now in
@@ -98,4 +98,4 @@ returns g c =
     let all = all_outlined V o trees over.0 over.1 in
     let found = at_value trees over.0 all (λ (v : TreeValue). IsSpotAt v place.names c.args.spot) place.tree c.requires.within c.requires.found in
     remove-directory over.0 handles c.args.p.0 place (within_stores trees over.0 all place.tree c.requires.within) c.args.spot found c.in-Directory.parent c.in-Directory.node c.in-Directory.name c.in-Directory.is fs over.2)
-    c.remove_closed.ensures
+    c.remove_closed.ensures.served

@@ -43,7 +43,7 @@ returns-then-not-ready-clause-served g c =
 
 pub returns-clause-served : goal.returns-clause-served
 returns-clause-served g c =
-    served_step (λ fs over. ap (λ (b : Bool). refuse_if (not b) Eperm (file_service c.args.table.now fs c.args.p.0 c.args.call.now)) c.if-not-ready.false) c.serve.ensures
+    served_step (λ fs over. ap (λ (b : Bool). refuse_if (not b) Eperm (file_service c.args.table.now fs c.args.p.0 c.args.call.now)) c.if-not-ready.false) c.serve.ensures.served
 
 -- a file call keeps a file system valid, and so the state after this one is
 pub returns-clause-serving : goal.returns-clause-serving

@@ -13,6 +13,7 @@ use Rattle.service_parts.proofs.Held.{of_table_held, ready_at, seen}
 use Rattle.service_parts.proofs.Served.{accepting, served-new, served-told}
 use Rattle.file_services.proofs.Held.{held-in_use, held-tree, moved-handles}
 use Rattle.file_services.proofs.ChangingLaws.{resize-refused, resize-goes, resize-done}
+use Rattle.file_services.proofs.Unread.{changing-unread}
 use Rattle.file_services.proofs.changing.resize_through.Goals as goal
 
 pub resize-requires-clause-ready : goal.resize-requires-clause-ready
@@ -34,8 +35,8 @@ resize-requires-clause-in_use g c =
     let handles = c.args.handles.now in
     held-in_use trees handles c.args.p.0 c.args.id c.args.handle c.args.file c.requires.held c.requires.has_file (seen V o trees handles c.requires.serving)
 
-pub returns-in-Ok : goal.returns-in-Ok
-returns-in-Ok g c = λ table of.
+pub returns-in-Ok-clause-served : goal.returns-in-Ok-clause-served
+returns-in-Ok-clause-served g c = λ table of.
     let V = g.R.Rig.tells_view in
     let K = g.R.Rig.keeps_cuts in
     let o = g.R.Rig.state c.args.rig.now in
@@ -58,8 +59,8 @@ returns-in-Ok g c = λ table of.
           (resize-done table stores handles c.args.p.0 c.args.id c.args.size (of_table_held V o table trees stores handles of ready.stored hold) c.args.handle c.args.file w c.requires.held c.requires.has_file c.requires.writes answer.0 refl),
     ))
 
-pub returns-in-Err-Refused : goal.returns-in-Err-Refused
-returns-in-Err-Refused g c = λ table of.
+pub returns-in-Err-Refused-clause-served : goal.returns-in-Err-Refused-clause-served
+returns-in-Err-Refused-clause-served g c = λ table of.
     let V = g.R.Rig.tells_view in
     let K = g.R.Rig.keeps_cuts in
     let o = g.R.Rig.state c.args.rig.now in
@@ -79,8 +80,8 @@ returns-in-Err-Refused g c = λ table of.
     (resize-refused table stores handles c.args.p.0 c.args.id c.args.size (of_table_held V o table trees stores handles of ready.stored hold) c.args.handle c.args.file c.in-Err-Refused.errno c.requires.held c.requires.has_file c.requires.writes answer.0))
 
 -- a failed read is told, and the position stays
-pub returns-in-Err-ReadFault : goal.returns-in-Err-ReadFault
-returns-in-Err-ReadFault g c = λ table of.
+pub returns-in-Err-ReadFault-clause-served : goal.returns-in-Err-ReadFault-clause-served
+returns-in-Err-ReadFault-clause-served g c = λ table of.
     let V = g.R.Rig.tells_view in
     let K = g.R.Rig.keeps_cuts in
     let o = g.R.Rig.state c.args.rig.now in
@@ -99,8 +100,8 @@ returns-in-Err-ReadFault g c = λ table of.
     (λ fs over. accepting (resize-goes table over.0 handles c.args.p.0 c.args.id c.args.size (of_table_held V o table trees over.0 handles of ready.stored over.1) c.args.handle c.args.file ((resized_store c.args.file.0 c.args.size) (store_at over.0 k)) c.requires.held c.requires.has_file c.requires.writes
     (answer over.0 over.1).0 refl fs over.2))
 
-pub returns-in-Err-Device : goal.returns-in-Err-Device
-returns-in-Err-Device g c = λ table of.
+pub returns-in-Err-Device-clause-served : goal.returns-in-Err-Device-clause-served
+returns-in-Err-Device-clause-served g c = λ table of.
     let V = g.R.Rig.tells_view in
     let K = g.R.Rig.keeps_cuts in
     let o = g.R.Rig.state c.args.rig.now in
@@ -114,3 +115,22 @@ returns-in-Err-Device g c = λ table of.
     served_fault V K o e (g.met.R.Rig.sound c.args.rig.now) (g.met.R.Rig.sound c.resize.new.rig) (λ fs. resize_file table fs c.args.p.0 c.args.id c.args.size) (ReadsFailed true o e) trees handles ready
     c.resize.new.self (acts_writing V o e trees c.resize.new.self handles ready k within c.resize.ensures.acts) (passes_same V o e (λ fs. resize_file table fs c.args.p.0 c.args.id c.args.size) trees handles k within c.resize.ensures.moments)
     _ (at_device (Unit {0}) V k (resize_refusal c.args.file.0 c.args.size) (resized_store c.args.file.0 c.args.size) (c.resize.new.rig ≡ c.args.rig.now) (Rose o.read_faults e.read_faults) o e trees c.resize.new.self c.in-Err-Device.field-0 c.in-Err-Device.ensures.answer c.in-Err-Device.field-0-is over.0 over.1).1
+
+-- the store says why it refuses, and that is no failed read
+pub returns-in-Err-Refused-clause-unread : goal.returns-in-Err-Refused-clause-unread
+returns-in-Err-Refused-clause-unread g c =
+    let V = g.R.Rig.tells_view in
+    let o = g.R.Rig.state c.args.rig.now in
+    let e = g.R.Rig.state c.resize.new.rig in
+    let over = c.requires.serving.serving.1 in
+    let k = c.args.handle.tree in
+    let refused = at_refused (Unit {0}) V k (resize_refusal c.args.file.0 c.args.size) (resized_store c.args.file.0 c.args.size) (c.resize.new.rig ≡ c.args.rig.now) (Rose o.read_faults e.read_faults) o e c.args.trees.now c.resize.new.self c.in-Err-Refused.field-0 c.in-Err-Refused.ensures.answer c.in-Err-Refused.errno c.in-Err-Refused.field-0-is over.0 over.1 in
+    changing-unread o e c.refusal.result (store_at over.0 k) c.args.file.0 c.args.size c.in-Err-Refused.errno refused.0 (c.refusal.ensures ∙ ap refusal c.in-Err-Refused.errno-is)
+
+pub returns-in-Err-ReadFault-clause-unread : goal.returns-in-Err-ReadFault-clause-unread
+returns-in-Err-ReadFault-clause-unread g c = λ eio.
+    let V = g.R.Rig.tells_view in
+    let o = g.R.Rig.state c.args.rig.now in
+    let e = g.R.Rig.state c.resize.new.rig in
+    let over = c.requires.serving.serving.1 in
+    (at_unread (Unit {0}) V c.args.handle.tree (resize_refusal c.args.file.0 c.args.size) (resized_store c.args.file.0 c.args.size) (c.resize.new.rig ≡ c.args.rig.now) (Rose o.read_faults e.read_faults) o e c.args.trees.now c.resize.new.self c.in-Err-ReadFault.field-0 c.in-Err-ReadFault.ensures.answer c.in-Err-ReadFault.field-0-is over.0 over.1).1

@@ -1,7 +1,9 @@
 use Rattle.std.proofs.Common.{◌≡◌, ◌+◌, ◌∙◌, ap, refl, length, arith}
 use Rattle.std.specs.Prelude.{true, slice_set}
+use Rattle.apex_model.specs.Files.{written}
 use Rattle.apex_model.specs.FileStep.{write_file}
 use Rattle.apex_model.specs.Outcomes.{refusal}
+use Rattle.store_model.specs.Stores.{kept_at}
 use Rattle.store_model.specs.Systems.{store_at}
 use Rattle.rig_core.specs.Causes.{Rose}
 use Rattle.tree_store.specs.Answers.{write_refusal, written_store}
@@ -11,6 +13,7 @@ use Rattle.service_parts.proofs.Held.{of_table_held, ready_at, seen}
 use Rattle.service_parts.proofs.Served.{accepting, served-new, served-told}
 use Rattle.file_services.proofs.Held.{held-in_use, held-low, held-position, held-tree, moved-handles}
 use Rattle.file_services.proofs.ChangingLaws.{write-refused, write-goes, write-done}
+use Rattle.file_services.proofs.Unread.{changing-unread}
 use Rattle.file_services.proofs.changing.write_through.Goals as goal
 
 pub write-requires-clause-ready : goal.write-requires-clause-ready
@@ -52,8 +55,8 @@ overflow_add-handle g c =
     let low = held-low V o trees handles c.args.p.0 c.args.id c.args.handle c.requires.held c.requires.serving in
     omega (arith, low, c.requires.few)
 
-pub returns-in-Ok : goal.returns-in-Ok
-returns-in-Ok g c = λ table of.
+pub returns-in-Ok-clause-served : goal.returns-in-Ok-clause-served
+returns-in-Ok-clause-served g c = λ table of.
     let V = g.R.Rig.tells_view in
     let K = g.R.Rig.keeps_cuts in
     let o = g.R.Rig.state c.args.rig.now in
@@ -75,8 +78,8 @@ returns-in-Ok g c = λ table of.
           (write-done table stores handles c.args.p.0 c.args.id c.args.bytes.now (of_table_held V o table trees stores handles of ready.stored hold) c.args.handle c.args.file w c.requires.held c.requires.has_file c.requires.writes c.requires.some c.requires.few answer.0 refl),
     ))
 
-pub returns-in-Err-Refused : goal.returns-in-Err-Refused
-returns-in-Err-Refused g c = λ table of.
+pub returns-in-Err-Refused-clause-served : goal.returns-in-Err-Refused-clause-served
+returns-in-Err-Refused-clause-served g c = λ table of.
     let V = g.R.Rig.tells_view in
     let K = g.R.Rig.keeps_cuts in
     let o = g.R.Rig.state c.args.rig.now in
@@ -96,8 +99,8 @@ returns-in-Err-Refused g c = λ table of.
     (write-refused table stores handles c.args.p.0 c.args.id c.args.bytes.now (of_table_held V o table trees stores handles of ready.stored hold) c.args.handle c.args.file c.in-Err-Refused.errno c.requires.held c.requires.has_file c.requires.writes c.requires.some c.requires.few answer.0))
 
 -- a failed read is told, and the position stays
-pub returns-in-Err-ReadFault : goal.returns-in-Err-ReadFault
-returns-in-Err-ReadFault g c = λ table of.
+pub returns-in-Err-ReadFault-clause-served : goal.returns-in-Err-ReadFault-clause-served
+returns-in-Err-ReadFault-clause-served g c = λ table of.
     let V = g.R.Rig.tells_view in
     let K = g.R.Rig.keeps_cuts in
     let o = g.R.Rig.state c.args.rig.now in
@@ -116,8 +119,8 @@ returns-in-Err-ReadFault g c = λ table of.
     (λ fs over. accepting (write-goes table over.0 handles c.args.p.0 c.args.id c.args.bytes.now (of_table_held V o table trees over.0 handles of ready.stored over.1) c.args.handle c.args.file ((written_store c.args.file.0 c.args.handle.position c.args.bytes.now) (store_at over.0 k)) c.requires.held c.requires.has_file c.requires.writes c.requires.some c.requires.few
     (answer over.0 over.1).0 refl fs over.2))
 
-pub returns-in-Err-Device : goal.returns-in-Err-Device
-returns-in-Err-Device g c = λ table of.
+pub returns-in-Err-Device-clause-served : goal.returns-in-Err-Device-clause-served
+returns-in-Err-Device-clause-served g c = λ table of.
     let V = g.R.Rig.tells_view in
     let K = g.R.Rig.keeps_cuts in
     let o = g.R.Rig.state c.args.rig.now in
@@ -131,3 +134,22 @@ returns-in-Err-Device g c = λ table of.
     served_fault V K o e (g.met.R.Rig.sound c.args.rig.now) (g.met.R.Rig.sound c.write.new.rig) (λ fs. write_file table fs c.args.p.0 c.args.id c.args.bytes.now) (ReadsFailed true o e) trees handles ready
     c.write.new.self (acts_writing V o e trees c.write.new.self handles ready k within c.write.ensures.acts) (passes_same V o e (λ fs. write_file table fs c.args.p.0 c.args.id c.args.bytes.now) trees handles k within c.write.ensures.moments)
     _ (at_device (Unit {0}) V k (write_refusal c.args.file.0 c.args.handle.position c.args.bytes.now) (written_store c.args.file.0 c.args.handle.position c.args.bytes.now) (c.write.new.rig ≡ c.args.rig.now) (Rose o.read_faults e.read_faults) o e trees c.write.new.self c.in-Err-Device.field-0 c.in-Err-Device.ensures.answer c.in-Err-Device.field-0-is over.0 over.1).1
+
+-- the store says why it refuses, and that is no failed read
+pub returns-in-Err-Refused-clause-unread : goal.returns-in-Err-Refused-clause-unread
+returns-in-Err-Refused-clause-unread g c =
+    let V = g.R.Rig.tells_view in
+    let o = g.R.Rig.state c.args.rig.now in
+    let e = g.R.Rig.state c.write.new.rig in
+    let over = c.requires.serving.serving.1 in
+    let k = c.args.handle.tree in
+    let refused = at_refused (Unit {0}) V k (write_refusal c.args.file.0 c.args.handle.position c.args.bytes.now) (written_store c.args.file.0 c.args.handle.position c.args.bytes.now) (c.write.new.rig ≡ c.args.rig.now) (Rose o.read_faults e.read_faults) o e c.args.trees.now c.write.new.self c.in-Err-Refused.field-0 c.in-Err-Refused.ensures.answer c.in-Err-Refused.errno c.in-Err-Refused.field-0-is over.0 over.1 in
+    changing-unread o e c.refusal.result (store_at over.0 k) c.args.file.0 (length (written (kept_at (store_at over.0 k) c.args.file.0).content c.args.handle.position c.args.bytes.now)) c.in-Err-Refused.errno refused.0 (c.refusal.ensures ∙ ap refusal c.in-Err-Refused.errno-is)
+
+pub returns-in-Err-ReadFault-clause-unread : goal.returns-in-Err-ReadFault-clause-unread
+returns-in-Err-ReadFault-clause-unread g c = λ eio.
+    let V = g.R.Rig.tells_view in
+    let o = g.R.Rig.state c.args.rig.now in
+    let e = g.R.Rig.state c.write.new.rig in
+    let over = c.requires.serving.serving.1 in
+    (at_unread (Unit {0}) V c.args.handle.tree (write_refusal c.args.file.0 c.args.handle.position c.args.bytes.now) (written_store c.args.file.0 c.args.handle.position c.args.bytes.now) (c.write.new.rig ≡ c.args.rig.now) (Rose o.read_faults e.read_faults) o e c.args.trees.now c.write.new.self c.in-Err-ReadFault.field-0 c.in-Err-ReadFault.ensures.answer c.in-Err-ReadFault.field-0-is over.0 over.1).1

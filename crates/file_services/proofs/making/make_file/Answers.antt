@@ -47,8 +47,8 @@ pub make_file-requires-clause-free : goal.make_file-requires-clause-free
 make_file-requires-clause-free g c = λ store at.
     path-free (names_of store) c.args.parent c.args.place.path.names c.last_name-name.result (c.requires.free store at) c.last_name-name.ensures.last
 
-pub returns-in-Some : goal.returns-in-Some
-returns-in-Some g c =
+pub returns-in-Some-clause-served : goal.returns-in-Some-clause-served
+returns-in-Some-clause-served g c =
     let V = g.R.Rig.tells_view in
     let K = g.R.Rig.keeps_cuts in
     let o = g.R.Rig.state c.args.rig.now in
@@ -83,8 +83,8 @@ returns-in-Some g c =
           (make-opened c.args.table.now stores handles c.args.p.0 c.args.place.tree c.args.place.path.names within (of_table_held V o c.args.table.now trees stores handles c.requires.of_table c.requires.serving.stored hold) c.args.parent found name c.last_name-name.ensures.last c.last_name-name.ensures.few (long stores hold) c.in-Ok.file c.in-Some.id least (sym c.in-Some.ensures.number)),
     ))
 
-pub returns-in-Err-Refused : goal.returns-in-Err-Refused
-returns-in-Err-Refused g c =
+pub returns-in-Err-Refused-clause-served : goal.returns-in-Err-Refused-clause-served
+returns-in-Err-Refused-clause-served g c =
     let V = g.R.Rig.tells_view in
     let K = g.R.Rig.keeps_cuts in
     let o = g.R.Rig.state c.args.rig.now in
@@ -115,8 +115,8 @@ returns-in-Err-Refused g c =
     let answer = refused stores hold in
     make-refused c.args.table.now stores handles c.args.p.0 c.args.place.tree c.args.place.path.names within (of_table_held V o c.args.table.now trees stores handles c.requires.of_table c.requires.serving.stored hold) c.args.parent found c.in-Err-Refused.errno c.refusal.result answer.0 (c.refusal.ensures ∙ ap (λ (e : Errno). refusal e) c.in-Err-Refused.errno-is))
 
-pub returns-in-Err-Device : goal.returns-in-Err-Device
-returns-in-Err-Device g c =
+pub returns-in-Err-Device-clause-served : goal.returns-in-Err-Device-clause-served
+returns-in-Err-Device-clause-served g c =
     let V = g.R.Rig.tells_view in
     let K = g.R.Rig.keeps_cuts in
     let o = g.R.Rig.state c.args.rig.now in

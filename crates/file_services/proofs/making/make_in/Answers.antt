@@ -27,8 +27,8 @@ bounds-trees-place-2 g c =
     let are = ap (λ (rows : List TreeRow). length rows) c.trees.ensures in
     omega (arith, long, are, c.requires.within)
 
-pub returns-then-limit-files : goal.returns-then-limit-files
-returns-then-limit-files g c =
+pub returns-then-limit-files-clause-served : goal.returns-then-limit-files-clause-served
+returns-then-limit-files-clause-served g c =
     let V = g.R.Rig.tells_view in
     let K = g.R.Rig.keeps_cuts in
     let o = g.R.Rig.state c.args.rig.now in
@@ -43,8 +43,8 @@ returns-then-limit-files g c =
     let full : nat_le (length (store_at stores c.args.place.tree).tree.files) (file_count (store_at stores c.args.place.tree).tree.nodes) ≡ true = full-test _ _ _ _ limit count c.if-limit-files.true in
     served-told c.refusal.ensures (make-full c.args.table.now stores handles c.args.p.0 c.args.place.tree c.args.place.path.names within (of_table_held V o c.args.table.now trees stores handles c.requires.of_table c.requires.serving.stored hold) c.args.parent found full))
 
-pub returns-then-is_none : goal.returns-then-is_none
-returns-then-is_none g c =
+pub returns-then-is_none-clause-served : goal.returns-then-is_none-clause-served
+returns-then-is_none-clause-served g c =
     let V = g.R.Rig.tells_view in
     let K = g.R.Rig.keeps_cuts in
     let o = g.R.Rig.state c.args.rig.now in

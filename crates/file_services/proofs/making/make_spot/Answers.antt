@@ -13,8 +13,8 @@ use Rattle.file_services.proofs.making.make_spot.Goals as goal
 pub make_in-requires-clause-free : goal.make_in-requires-clause-free
 make_in-requires-clause-free g c = λ store at. subst (λ (spot : Spot). IsSpotAt (names_of store) c.args.place.path.names spot) c.in-Free.is (c.requires.found store at)
 
-pub returns-in-Root : goal.returns-in-Root
-returns-in-Root g c =
+pub returns-in-Root-clause-served : goal.returns-in-Root-clause-served
+returns-in-Root-clause-served g c =
     let V = g.R.Rig.tells_view in
     let K = g.R.Rig.keeps_cuts in
     let o = g.R.Rig.state c.args.rig.now in
@@ -27,8 +27,8 @@ returns-in-Root g c =
     let P : Spot → Type 0 = λ spot. IsSpotAt (store_at stores c.args.place.tree).tree c.args.place.path.names spot in
     served-told c.refusal.ensures (make-root c.args.table.now stores handles c.args.p.0 c.args.place.tree c.args.place.path.names within (subst P c.in-Root.is found)))
 
-pub returns-in-Directory : goal.returns-in-Directory
-returns-in-Directory g c =
+pub returns-in-Directory-clause-served : goal.returns-in-Directory-clause-served
+returns-in-Directory-clause-served g c =
     let V = g.R.Rig.tells_view in
     let K = g.R.Rig.keeps_cuts in
     let o = g.R.Rig.state c.args.rig.now in
@@ -41,8 +41,8 @@ returns-in-Directory g c =
     let P : Spot → Type 0 = λ spot. IsSpotAt (store_at stores c.args.place.tree).tree c.args.place.path.names spot in
     served-told c.refusal-in-Directory.ensures (make-directory c.args.table.now stores handles c.args.p.0 c.args.place.tree c.args.place.path.names within c.in-Directory.parent c.in-Directory.node c.in-Directory.name (subst P c.in-Directory.is found)))
 
-pub returns-in-File : goal.returns-in-File
-returns-in-File g c =
+pub returns-in-File-clause-served : goal.returns-in-File-clause-served
+returns-in-File-clause-served g c =
     let V = g.R.Rig.tells_view in
     let K = g.R.Rig.keeps_cuts in
     let o = g.R.Rig.state c.args.rig.now in

@@ -45,8 +45,8 @@ part_of-requires-clause-low g c =
     held-low V o trees handles c.args.p.0 c.args.id c.args.handle c.requires.held c.requires.serving
 
 -- a failed read is told, and the position stays
-pub returns-in-Err : goal.returns-in-Err
-returns-in-Err g c =
+pub returns-in-Err-clause-served : goal.returns-in-Err-clause-served
+returns-in-Err-clause-served g c =
     let V = g.R.Rig.tells_view in
     let K = g.R.Rig.keeps_cuts in
     let o = g.R.Rig.state c.args.rig.now in
@@ -62,8 +62,8 @@ returns-in-Err g c =
     (λ fs over. accepting (read-goes over.0 handles c.args.p.0 c.args.id c.args.limit c.args.handle c.args.file (read over.0) c.requires.held c.requires.has_file c.requires.some c.requires.few refl fs over.2))
 
 -- the bytes are known where the rig tells its view, and how many they are for every rig
-pub returns-in-Ok : goal.returns-in-Ok
-returns-in-Ok g c =
+pub returns-in-Ok-clause-served : goal.returns-in-Ok-clause-served
+returns-in-Ok-clause-served g c =
     let V = g.R.Rig.tells_view in
     let K = g.R.Rig.keeps_cuts in
     let o = g.R.Rig.state c.args.rig.now in

@@ -27,8 +27,8 @@ remove_file-requires-clause-ready g c =
 pub remove_file-requires-clause-in_use : goal.remove_file-requires-clause-in_use
 remove_file-requires-clause-in_use g c = λ store at. ap is_some (c.requires.found store at)
 
-pub returns-in-Ok : goal.returns-in-Ok
-returns-in-Ok g c =
+pub returns-in-Ok-clause-served : goal.returns-in-Ok-clause-served
+returns-in-Ok-clause-served g c =
     let V = g.R.Rig.tells_view in
     let K = g.R.Rig.keeps_cuts in
     let o = g.R.Rig.state c.args.rig.now in
@@ -51,8 +51,8 @@ returns-in-Ok g c =
     c.file_gone.new.self c.success.result c.in-Ok.ensures.stored
     (λ stores hold. (slice_set stores k (word (store_at stores k)), c.in-Ok.ensures.done stores hold, served-new refl c.file_gone.ensures c.success.ensures (serves stores hold)))
 
-pub returns-in-Err : goal.returns-in-Err
-returns-in-Err g c =
+pub returns-in-Err-clause-served : goal.returns-in-Err-clause-served
+returns-in-Err-clause-served g c =
     let V = g.R.Rig.tells_view in
     let K = g.R.Rig.keeps_cuts in
     let o = g.R.Rig.state c.args.rig.now in

@@ -11,8 +11,8 @@ use Rattle.service_parts.proofs.Served.{served-told}
 use Rattle.file_services.proofs.RemovingLaws.{remove-err, remove-obstacle, remove-at}
 use Rattle.file_services.proofs.removing.remove_file.Goals as goal
 
-pub returns-in-Err : goal.returns-in-Err
-returns-in-Err g c =
+pub returns-in-Err-clause-served : goal.returns-in-Err-clause-served
+returns-in-Err-clause-served g c =
     let V = g.R.Rig.tells_view in
     let K = g.R.Rig.keeps_cuts in
     let o = g.R.Rig.state c.args.rig.now in
@@ -30,8 +30,8 @@ remove_spot-requires-clause-within g c = let low = trees_long c.args.table.now c
 pub remove_spot-requires-clause-found : goal.remove_spot-requires-clause-found
 remove_spot-requires-clause-found g c = λ store at. subst (λ (v : TreeValue). IsSpotAt v c.in-Ok.place.path.names c.in-Ok-walk.spot) (c.tree.ensures store at) c.in-Ok-walk.ensures.spot
 
-pub returns-in-Err-walk : goal.returns-in-Err-walk
-returns-in-Err-walk g c =
+pub returns-in-Err-walk-clause-served : goal.returns-in-Err-walk-clause-served
+returns-in-Err-walk-clause-served g c =
     let V = g.R.Rig.tells_view in
     let K = g.R.Rig.keeps_cuts in
     let o = g.R.Rig.state c.args.rig.now in
@@ -46,8 +46,8 @@ returns-in-Err-walk g c =
     = ap (λ (v : TreeValue). walk v.nodes c.in-Ok.place.path.names) (sym (tree_of trees stores (all_outlined V o trees stores hold) c.in-Ok.place.tree at c.tree.result.now c.tree.ensures)) ∙ c.in-Err-walk.ensures.obstacle in
     served-told c.refusal-in-Err-walk.ensures (remove-obstacle c.args.table.now stores handles c.args.p.0 c.args.path.now (model_place c.in-Ok.place) c.in-Err-walk.errno c.in-Ok.ensures.place within way))
 
-pub returns-in-Ok-walk : goal.returns-in-Ok-walk
-returns-in-Ok-walk g c =
+pub returns-in-Ok-walk-clause-served : goal.returns-in-Ok-walk-clause-served
+returns-in-Ok-walk-clause-served g c =
     let V = g.R.Rig.tells_view in
     let K = g.R.Rig.keeps_cuts in
     let o = g.R.Rig.state c.args.rig.now in
@@ -62,4 +62,4 @@ returns-in-Ok-walk g c =
     let within : c.in-Ok.place.tree < length stores = omega (arith, at, long) in
     let way : walk (store_at stores c.in-Ok.place.tree).tree.nodes c.in-Ok.place.path.names ≡ None
     = ap (λ (v : TreeValue). walk v.nodes c.in-Ok.place.path.names) (sym (tree_of trees stores (all_outlined V o trees stores hold) c.in-Ok.place.tree at c.tree.result.now c.tree.ensures)) ∙ c.in-Ok-walk.ensures.obstacle in
-    remove-at c.args.table.now stores handles c.args.p.0 c.args.path.now (model_place c.in-Ok.place) c.in-Ok.ensures.place within way fs over.2) c.remove_spot.ensures
+    remove-at c.args.table.now stores handles c.args.p.0 c.args.path.now (model_place c.in-Ok.place) c.in-Ok.ensures.place within way fs over.2) c.remove_spot.ensures.served

@@ -10,8 +10,8 @@ use Rattle.service_parts.proofs.Served.{served-told}
 use Rattle.file_services.proofs.RemovingLaws.{remove_step, remove-nothing, remove-root, remove-directory, remove-busy}
 use Rattle.file_services.proofs.removing.remove_spot.Goals as goal
 
-pub returns-in-Free : goal.returns-in-Free
-returns-in-Free g c =
+pub returns-in-Free-clause-served : goal.returns-in-Free-clause-served
+returns-in-Free-clause-served g c =
     let V = g.R.Rig.tells_view in
     let K = g.R.Rig.keeps_cuts in
     let o = g.R.Rig.state c.args.rig.now in
@@ -24,8 +24,8 @@ returns-in-Free g c =
     let P : Spot → Type 0 = λ spot. IsSpotAt (store_at stores c.args.place.tree).tree c.args.place.path.names spot in
     served-told c.refusal.ensures (remove-nothing stores handles c.args.p.0 c.args.place.tree c.args.place.path.names within c.in-Free.parent (subst P c.in-Free.is found)))
 
-pub returns-in-Root : goal.returns-in-Root
-returns-in-Root g c =
+pub returns-in-Root-clause-served : goal.returns-in-Root-clause-served
+returns-in-Root-clause-served g c =
     let V = g.R.Rig.tells_view in
     let K = g.R.Rig.keeps_cuts in
     let o = g.R.Rig.state c.args.rig.now in
@@ -38,8 +38,8 @@ returns-in-Root g c =
     let P : Spot → Type 0 = λ spot. IsSpotAt (store_at stores c.args.place.tree).tree c.args.place.path.names spot in
     served-told c.refusal-in-Root.ensures (remove-root stores handles c.args.p.0 c.args.place.tree c.args.place.path.names within (subst P c.in-Root.is found)))
 
-pub returns-in-Directory : goal.returns-in-Directory
-returns-in-Directory g c =
+pub returns-in-Directory-clause-served : goal.returns-in-Directory-clause-served
+returns-in-Directory-clause-served g c =
     let V = g.R.Rig.tells_view in
     let K = g.R.Rig.keeps_cuts in
     let o = g.R.Rig.state c.args.rig.now in
@@ -52,8 +52,8 @@ returns-in-Directory g c =
     let P : Spot → Type 0 = λ spot. IsSpotAt (store_at stores c.args.place.tree).tree c.args.place.path.names spot in
     served-told c.refusal-in-Directory.ensures (remove-directory stores handles c.args.p.0 c.args.place.tree c.args.place.path.names within c.in-Directory.parent c.in-Directory.node c.in-Directory.name (subst P c.in-Directory.is found)))
 
-pub returns-then-holds_file : goal.returns-then-holds_file
-returns-then-holds_file g c =
+pub returns-then-holds_file-clause-served : goal.returns-then-holds_file-clause-served
+returns-then-holds_file-clause-served g c =
     let V = g.R.Rig.tells_view in
     let K = g.R.Rig.keeps_cuts in
     let o = g.R.Rig.state c.args.rig.now in

@@ -48,8 +48,8 @@ pub rename-requires-clause-free : goal.rename-requires-clause-free
 rename-requires-clause-free g c = λ store at.
     path-free (names_of store) c.args.parent c.args.target.path.names c.last_name-name.result (c.requires.free store at) c.last_name-name.ensures.last
 
-pub returns-in-Ok : goal.returns-in-Ok
-returns-in-Ok g c =
+pub returns-in-Ok-clause-served : goal.returns-in-Ok-clause-served
+returns-in-Ok-clause-served g c =
     let V = g.R.Rig.tells_view in
     let K = g.R.Rig.keeps_cuts in
     let o = g.R.Rig.state c.args.rig.now in
@@ -75,8 +75,8 @@ returns-in-Ok g c =
     handles c.success.result c.in-Ok.ensures.stored
     (λ stores hold. (slice_set stores k (word (store_at stores k)), c.in-Ok.ensures.done stores hold, served-told c.success.ensures (serves stores hold)))
 
-pub returns-in-Err : goal.returns-in-Err
-returns-in-Err g c =
+pub returns-in-Err-clause-served : goal.returns-in-Err-clause-served
+returns-in-Err-clause-served g c =
     let V = g.R.Rig.tells_view in
     let K = g.R.Rig.keeps_cuts in
     let o = g.R.Rig.state c.args.rig.now in

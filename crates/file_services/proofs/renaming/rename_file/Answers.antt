@@ -13,8 +13,8 @@ use Rattle.service_parts.proofs.Served.{served-told}
 use Rattle.file_services.proofs.RenamingLaws.{rename-err, rename-target_err, rename-elsewhere, rename-way, rename-within}
 use Rattle.file_services.proofs.renaming.rename_file.Goals as goal
 
-pub returns-in-Err : goal.returns-in-Err
-returns-in-Err g c =
+pub returns-in-Err-clause-served : goal.returns-in-Err-clause-served
+returns-in-Err-clause-served g c =
     let V = g.R.Rig.tells_view in
     let K = g.R.Rig.keeps_cuts in
     let o = g.R.Rig.state c.args.rig.now in
@@ -23,8 +23,8 @@ returns-in-Err g c =
     served_still V K o (g.met.R.Rig.sound c.args.rig.now) (λ fs. rename_file c.args.table.now fs c.args.p.0 c.args.from.now c.args.to.now) (ReadsFailed false o o) trees handles c.requires.serving handles c.refusal.result
     (λ stores hold. served-told c.refusal.ensures (rename-err c.args.table.now stores handles c.args.p.0 c.args.from.now c.args.to.now c.in-Err.errno c.in-Err.ensures.place))
 
-pub returns-in-Err-place_of : goal.returns-in-Err-place_of
-returns-in-Err-place_of g c =
+pub returns-in-Err-place_of-clause-served : goal.returns-in-Err-place_of-clause-served
+returns-in-Err-place_of-clause-served g c =
     let V = g.R.Rig.tells_view in
     let K = g.R.Rig.keeps_cuts in
     let o = g.R.Rig.state c.args.rig.now in
@@ -33,8 +33,8 @@ returns-in-Err-place_of g c =
     served_still V K o (g.met.R.Rig.sound c.args.rig.now) (λ fs. rename_file c.args.table.now fs c.args.p.0 c.args.from.now c.args.to.now) (ReadsFailed false o o) trees handles c.requires.serving handles c.refusal-in-Err-place_of.result
     (λ stores hold. served-told c.refusal-in-Err-place_of.ensures (rename-target_err c.args.table.now stores handles c.args.p.0 c.args.from.now c.args.to.now (model_place c.in-Ok.place) c.in-Ok.ensures.place c.in-Err-place_of.errno c.in-Err-place_of.ensures.place))
 
-pub returns-then-source-target : goal.returns-then-source-target
-returns-then-source-target g c =
+pub returns-then-source-target-clause-served : goal.returns-then-source-target-clause-served
+returns-then-source-target-clause-served g c =
     let V = g.R.Rig.tells_view in
     let K = g.R.Rig.keeps_cuts in
     let o = g.R.Rig.state c.args.rig.now in
@@ -56,8 +56,8 @@ rename_spot-requires-clause-found g c =
     subst (λ (t : ℕ). AtTree c.args.trees.now t (λ store. IsSpotAt (names_of store) c.in-Ok.place.path.names c.in-Ok-walk.spot)) same
     (λ store at. subst (λ (v : TreeValue). IsSpotAt v c.in-Ok.place.path.names c.in-Ok-walk.spot) (c.tree.ensures store at) c.in-Ok-walk.ensures.spot)
 
-pub returns-in-Err-walk : goal.returns-in-Err-walk
-returns-in-Err-walk g c =
+pub returns-in-Err-walk-clause-served : goal.returns-in-Err-walk-clause-served
+returns-in-Err-walk-clause-served g c =
     let V = g.R.Rig.tells_view in
     let K = g.R.Rig.keeps_cuts in
     let o = g.R.Rig.state c.args.rig.now in
@@ -73,8 +73,8 @@ returns-in-Err-walk g c =
     = ap (λ (v : TreeValue). walk v.nodes c.in-Ok.place.path.names) (sym (tree_of trees stores (all_outlined V o trees stores hold) c.in-Ok.place.tree at c.tree.result.now c.tree.ensures)) ∙ c.in-Err-walk.ensures.obstacle in
     served-told c.refusal-in-Err-walk.ensures (rename-way c.args.table.now stores handles c.args.p.0 c.args.from.now c.args.to.now (model_place c.in-Ok.place) c.in-Ok.ensures.place (model_place c.in-Ok-place_of.place) c.in-Ok-place_of.ensures.place same within c.in-Err-walk.errno way))
 
-pub returns-in-Ok-walk : goal.returns-in-Ok-walk
-returns-in-Ok-walk g c =
+pub returns-in-Ok-walk-clause-served : goal.returns-in-Ok-walk-clause-served
+returns-in-Ok-walk-clause-served g c =
     let V = g.R.Rig.tells_view in
     let K = g.R.Rig.keeps_cuts in
     let o = g.R.Rig.state c.args.rig.now in
@@ -90,4 +90,4 @@ returns-in-Ok-walk g c =
     let same : c.in-Ok.place.tree ≡ c.in-Ok-place_of.place.tree = omega arith in
     let way : walk (store_at stores c.in-Ok.place.tree).tree.nodes c.in-Ok.place.path.names ≡ None
     = ap (λ (v : TreeValue). walk v.nodes c.in-Ok.place.path.names) (sym (tree_of trees stores (all_outlined V o trees stores hold) c.in-Ok.place.tree at c.tree.result.now c.tree.ensures)) ∙ c.in-Ok-walk.ensures.obstacle in
-    rename-within c.args.table.now stores handles c.args.p.0 c.args.from.now c.args.to.now (model_place c.in-Ok.place) c.in-Ok.ensures.place (model_place c.in-Ok-place_of.place) c.in-Ok-place_of.ensures.place same within way fs over.2) c.rename_spot.ensures
+    rename-within c.args.table.now stores handles c.args.p.0 c.args.from.now c.args.to.now (model_place c.in-Ok.place) c.in-Ok.ensures.place (model_place c.in-Ok-place_of.place) c.in-Ok-place_of.ensures.place same within way fs over.2) c.rename_spot.ensures.served

@@ -11,8 +11,8 @@ use Rattle.service_parts.proofs.Served.{served-told}
 use Rattle.file_services.proofs.RenamingLaws.{rename_step, rename-nothing, rename-root, rename-directory, rename-obstacle}
 use Rattle.file_services.proofs.renaming.rename_spot.Goals as goal
 
-pub returns-in-Free : goal.returns-in-Free
-returns-in-Free g c =
+pub returns-in-Free-clause-served : goal.returns-in-Free-clause-served
+returns-in-Free-clause-served g c =
     let V = g.R.Rig.tells_view in
     let K = g.R.Rig.keeps_cuts in
     let o = g.R.Rig.state c.args.rig.now in
@@ -25,8 +25,8 @@ returns-in-Free g c =
     let P : Spot → Type 0 = λ spot. IsSpotAt (store_at stores c.args.target.tree).tree c.args.from.now spot in
     served-told c.refusal.ensures (rename-nothing stores handles c.args.p.0 c.args.target.tree c.args.from.now c.args.target.path.names within c.in-Free.parent (subst P c.in-Free.is found)))
 
-pub returns-in-Root : goal.returns-in-Root
-returns-in-Root g c =
+pub returns-in-Root-clause-served : goal.returns-in-Root-clause-served
+returns-in-Root-clause-served g c =
     let V = g.R.Rig.tells_view in
     let K = g.R.Rig.keeps_cuts in
     let o = g.R.Rig.state c.args.rig.now in
@@ -39,8 +39,8 @@ returns-in-Root g c =
     let P : Spot → Type 0 = λ spot. IsSpotAt (store_at stores c.args.target.tree).tree c.args.from.now spot in
     served-told c.refusal-in-Root.ensures (rename-root stores handles c.args.p.0 c.args.target.tree c.args.from.now c.args.target.path.names within (subst P c.in-Root.is found)))
 
-pub returns-in-Directory : goal.returns-in-Directory
-returns-in-Directory g c =
+pub returns-in-Directory-clause-served : goal.returns-in-Directory-clause-served
+returns-in-Directory-clause-served g c =
     let V = g.R.Rig.tells_view in
     let K = g.R.Rig.keeps_cuts in
     let o = g.R.Rig.state c.args.rig.now in
@@ -62,8 +62,8 @@ rename_to-requires-clause-reached g c = λ store at. subst (λ (v : TreeValue). 
 pub rename_to-requires-clause-found : goal.rename_to-requires-clause-found
 rename_to-requires-clause-found g c = λ store at. (subst (λ (spot : Spot). IsSpotAt (names_of store) c.args.from.now spot) c.in-File.is (c.requires.found store at)).2
 
-pub returns-in-Err : goal.returns-in-Err
-returns-in-Err g c =
+pub returns-in-Err-clause-served : goal.returns-in-Err-clause-served
+returns-in-Err-clause-served g c =
     let V = g.R.Rig.tells_view in
     let K = g.R.Rig.keeps_cuts in
     let o = g.R.Rig.state c.args.rig.now in

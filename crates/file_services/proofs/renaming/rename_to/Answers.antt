@@ -11,8 +11,8 @@ use Rattle.service_parts.proofs.Served.{served-told}
 use Rattle.file_services.proofs.RenamingLaws.{rename_step, rename-busy, rename-to_root, rename-to_directory, rename-to_file}
 use Rattle.file_services.proofs.renaming.rename_to.Goals as goal
 
-pub returns-then-holds_file : goal.returns-then-holds_file
-returns-then-holds_file g c =
+pub returns-then-holds_file-clause-served : goal.returns-then-holds_file-clause-served
+returns-then-holds_file-clause-served g c =
     let V = g.R.Rig.tells_view in
     let K = g.R.Rig.keeps_cuts in
     let o = g.R.Rig.state c.args.rig.now in
@@ -26,8 +26,8 @@ returns-then-holds_file g c =
 pub rename_closed-requires-clause-free : goal.rename_closed-requires-clause-free
 rename_closed-requires-clause-free g c = λ store at. subst (λ (spot : Spot). IsSpotAt (names_of store) c.args.target.path.names spot) c.in-Free.is (c.requires.reached store at)
 
-pub returns-in-Root : goal.returns-in-Root
-returns-in-Root g c =
+pub returns-in-Root-clause-served : goal.returns-in-Root-clause-served
+returns-in-Root-clause-served g c =
     let V = g.R.Rig.tells_view in
     let K = g.R.Rig.keeps_cuts in
     let o = g.R.Rig.state c.args.rig.now in
@@ -40,8 +40,8 @@ returns-in-Root g c =
     let P : Spot → Type 0 = λ spot. IsSpotAt (store_at stores c.args.target.tree).tree c.args.target.path.names spot in
     served-told c.refusal-in-Root.ensures (rename-to_root stores handles c.args.p.0 c.args.target.tree c.args.from.now c.args.target.path.names within c.args.file (at_value trees stores (all_outlined V o trees stores hold) (λ (v : TreeValue). slot v.files c.args.file.0 ≡ Some c.args.from.now) c.args.target.tree c.requires.within c.requires.found) (subst P c.in-Root.is found) (at_value trees stores (all_outlined V o trees stores hold) (λ (v : TreeValue). walk v.nodes c.args.target.path.names ≡ None) c.args.target.tree c.requires.within c.requires.way) (sym c.holds_file.ensures ∙ c.if-holds_file.false)))
 
-pub returns-in-Directory : goal.returns-in-Directory
-returns-in-Directory g c =
+pub returns-in-Directory-clause-served : goal.returns-in-Directory-clause-served
+returns-in-Directory-clause-served g c =
     let V = g.R.Rig.tells_view in
     let K = g.R.Rig.keeps_cuts in
     let o = g.R.Rig.state c.args.rig.now in
@@ -54,8 +54,8 @@ returns-in-Directory g c =
     let P : Spot → Type 0 = λ spot. IsSpotAt (store_at stores c.args.target.tree).tree c.args.target.path.names spot in
     served-told c.refusal-in-Directory.ensures (rename-to_directory stores handles c.args.p.0 c.args.target.tree c.args.from.now c.args.target.path.names within c.args.file (at_value trees stores (all_outlined V o trees stores hold) (λ (v : TreeValue). slot v.files c.args.file.0 ≡ Some c.args.from.now) c.args.target.tree c.requires.within c.requires.found) c.in-Directory.parent c.in-Directory.node c.in-Directory.name (subst P c.in-Directory.is found) (at_value trees stores (all_outlined V o trees stores hold) (λ (v : TreeValue). walk v.nodes c.args.target.path.names ≡ None) c.args.target.tree c.requires.within c.requires.way) (sym c.holds_file.ensures ∙ c.if-holds_file.false)))
 
-pub returns-in-File : goal.returns-in-File
-returns-in-File g c =
+pub returns-in-File-clause-served : goal.returns-in-File-clause-served
+returns-in-File-clause-served g c =
     let V = g.R.Rig.tells_view in
     let K = g.R.Rig.keeps_cuts in
     let o = g.R.Rig.state c.args.rig.now in

@@ -8,6 +8,7 @@ use Rattle.tree_store.specs.Naming.{HasDirectory, IsFree, IsShallow}
 use Rattle.tree_store.specs.Stored.{names_of}
 use Rattle.tree_store.specs.declared.store.TreeStore.{TreeStore}
 use Rattle.tree_store.proofs.Lent.{acts-at, answer-at, at-lent, lent, lent-at, lent-holds, lent-stored, passes-at, stored-unless}
+use Rattle.tree_store.proofs.Naming.{four-made}
 use Rattle.tree_store.proofs.trees.Trees.make_dir.Goals as goal
 
 pub make_dir-requires-clause-stored : goal.make_dir-requires-clause-stored
@@ -95,3 +96,6 @@ returns-clause-node g c =
     let o = g.R.Rig.state c.args.rig.now in
     let is = lent g.R.Rig.tells_view o trees c.args.self.now k s c.self.view_is c.requires.ready c.index_mut.ensures.value in
     at-lent g.R.Rig.tells_view g.R.Rig.keeps_cuts o trees c.args.self.now k s is (λ (store : TreeStore). IfOk c.make_dir.result (λ directory. free_from 1 (names_of store).directories ≡ Some directory.0)) c.make_dir.ensures.node
+
+pub returns-clause-rises : goal.returns-clause-rises
+returns-clause-rises g c = four-made g.R.Rig.keeps_cuts (g.R.Rig.state c.args.rig.now) (g.R.Rig.state c.make_dir.new.rig) c.index_mut.result.now c.make_dir.result c.make_dir.ensures.rises

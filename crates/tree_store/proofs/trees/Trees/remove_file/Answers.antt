@@ -4,6 +4,7 @@ use Rattle.tree_store.specs.Answers.{removed_file}
 use Rattle.tree_store.specs.Naming.{HasFile}
 use Rattle.tree_store.specs.declared.store.TreeStore.{TreeStore}
 use Rattle.tree_store.proofs.Lent.{acts-at, done-at, lent, lent-at, lent-holds, lent-stored, passes-at, stored-ok}
+use Rattle.tree_store.proofs.Naming.{four-made}
 use Rattle.tree_store.proofs.trees.Trees.remove_file.Goals as goal
 
 pub remove_file-requires-clause-stored : goal.remove_file-requires-clause-stored
@@ -64,3 +65,6 @@ returns-clause-acts g c =
     let is = lent g.R.Rig.tells_view o trees c.args.self.now k s c.self.view_is c.requires.ready c.index_mut.ensures.value in
     let e = g.R.Rig.state c.remove_file.new.rig in
     acts-at g.R.Rig.tells_view g.R.Rig.keeps_cuts o trees c.args.self.now k s is e (g.met.R.Rig.sound c.args.rig.now) (g.met.R.Rig.sound c.remove_file.new.rig) c.remove_file.new.self 4 3 c.remove_file.ensures.acts
+
+pub returns-clause-rises : goal.returns-clause-rises
+returns-clause-rises g c = four-made g.R.Rig.keeps_cuts (g.R.Rig.state c.args.rig.now) (g.R.Rig.state c.remove_file.new.rig) c.index_mut.result.now c.remove_file.result c.remove_file.ensures.rises

@@ -4,6 +4,7 @@ use Rattle.tree_store.specs.Answers.{renamed_file}
 use Rattle.tree_store.specs.Naming.{HasDirectory, HasFile, IsFree, IsShallow}
 use Rattle.tree_store.specs.declared.store.TreeStore.{TreeStore}
 use Rattle.tree_store.proofs.Lent.{acts-at, done-at, lent, lent-at, lent-holds, lent-stored, passes-at, stored-ok}
+use Rattle.tree_store.proofs.Naming.{four-made}
 use Rattle.tree_store.proofs.trees.Trees.rename.Goals as goal
 
 pub rename-requires-clause-stored : goal.rename-requires-clause-stored
@@ -91,3 +92,6 @@ returns-clause-acts g c =
     let is = lent g.R.Rig.tells_view o trees c.args.self.now k s c.self.view_is c.requires.ready c.index_mut.ensures.value in
     let e = g.R.Rig.state c.rename.new.rig in
     acts-at g.R.Rig.tells_view g.R.Rig.keeps_cuts o trees c.args.self.now k s is e (g.met.R.Rig.sound c.args.rig.now) (g.met.R.Rig.sound c.rename.new.rig) c.rename.new.self 4 3 c.rename.ensures.acts
+
+pub returns-clause-rises : goal.returns-clause-rises
+returns-clause-rises g c = four-made g.R.Rig.keeps_cuts (g.R.Rig.state c.args.rig.now) (g.R.Rig.state c.rename.new.rig) c.index_mut.result.now c.rename.result c.rename.ensures.rises
