@@ -2,6 +2,7 @@ mod Entered
 mod Filed
 mod LogChanges
 mod Logged
+mod Named
 pub mod Ready
 mod Replies
 mod Restarted

@@ -48,7 +48,7 @@ module _ (V : Type 0) (o e : Outside) (old new : Session) (number : ℕ) (p : Pa
       failed_outcome w failure.reads (failure.unchanged w stands).0 in
       record {
         failed = number ∷ [];
-        failures = inr (refl, ap (λ (r : Reply). Some r) failure.told_is, failure.cause);
+        failures = inr (refl, ap (λ (r : Reply). Some r) failure.told_is, failure.cause, failure.reads);
         reply_is = λ w stands tells. ap (λ (r : Reply). Some r) (failure.told_is ∙ ap (λ (o : Outcome World). reply_of o) (sym (outcome w stands)));
         stands = λ w stands. subst (λ (o : Outcome World). StandsFor V e new (state_after w o)) (sym (outcome w stands)) (failure.unchanged w stands).1;
       }

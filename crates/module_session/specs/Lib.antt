@@ -1,4 +1,5 @@
 pub mod Calls
+pub mod Naming
 pub mod Partitions
 pub mod Sessions
 pub mod Steps

@@ -1,5 +1,5 @@
 -- What a session stands for, when it can carry out a line, and what carrying one out comes to.
-use Rattle.std.specs.Prelude.{◌≡◌, ◌⊎◌, ℕ, ◌+◌, ◌*◌, ◌≤◌, Bool, false, List, [], ◌∷◌, length, Option, Some, None, ⊤}
+use Rattle.std.specs.Prelude.{◌≡◌, ◌⊎◌, ℕ, ◌+◌, ◌*◌, ◌≤◌, Bool, true, false, List, [], ◌∷◌, length, Option, Some, None, ⊤}
 use Rattle.apex_types.specs.Rows.{Rows}
 use Rattle.apex_types.specs.declared.calls.Call.TheVariants as call
 use Rattle.apex_types.specs.declared.calls.Deed.{Deed}
@@ -8,7 +8,7 @@ use Rattle.apex_types.specs.declared.calls.Line.{Line}
 use Rattle.apex_types.specs.declared.codes.Errno.TheVariants.{Eio}
 use Rattle.apex_types.specs.declared.replies.Reply.{Reply}
 use Rattle.apex_model.specs.Accepted.{IsAccepted}
-use Rattle.apex_model.specs.FailedReads.{call_outcome, world_after_line}
+use Rattle.apex_model.specs.FailedReads.{call_outcome, reads_file, world_after_line}
 use Rattle.apex_model.specs.Outcomes.{refusal, reply_of}
 use Rattle.apex_model.specs.World.{World}
 use Rattle.rig_core.specs.Outside.{Outside}
@@ -71,11 +71,17 @@ reply_in table failed w line = elim line.deed [
   | deed.Partition p c ↦ Some (reply_of (call_outcome table failed w line.number p.0 c))
 ]
 
+-- whether a line is a call that may need to read a file's content
+abbrev pub reads_in : Deed → Bool
+reads_in (deed.Tick n) = false
+reads_in (deed.Partition p c) = reads_file c
+
 -- No read failed; or one did in this line, and that was told.
 abbrev pub AreFailures : Type 0 → Line → Option Reply → List ℕ → Type 0
 AreFailures reads line reply failed =
     (failed ≡ [])
-    ⊎ ((failed ≡ line.number ∷ []) × (reply ≡ Some (refusal Eio)) × reads)
+    ⊎ ((failed ≡ line.number ∷ []) × (reply ≡ Some (refusal Eio)) × reads
+    × (reads_in line.deed ≡ true))
 
 -- The line was carried out, and this is its reply: that of the definitions, with the line among
 -- those whose read failed or not.

@@ -1,9 +1,10 @@
 // A run of the services over what is stored on a device.
-ghost use Rattle.std.specs.Prelude.{◌≡◌, ◌⊎◌, ◌<◌, ◌+◌, ◌*◌, length, is_err, Ok, IfOk, OnOk, OnErr};
+ghost use Rattle.std.specs.Prelude.{◌≡◌, ◌⊎◌, ◌<◌, ◌≤◌, ◌+◌, ◌*◌, length, is_err, true, Ok, IfOk, OnOk, OnErr};
 ghost use Rattle.std.specs.Option.{ForSome};
 ghost use Rattle.apex_types.specs.declared.calls.Call.TheVariants as calls;
 ghost use Rattle.apex_model.specs.Accepted.{IsAccepted};
 ghost use Rattle.apex_model.specs.Durable.{Durable, IsCutDuring, start};
+ghost use Rattle.apex_model.specs.FailedReads.{reads_content, reads_file};
 ghost use Rattle.apex_model.specs.Image.{state_of};
 ghost use Rattle.apex_model.specs.Layout.{layout_blocks};
 ghost use Rattle.apex_model.specs.Lines.{IsLineOf, IsDeedOf};
@@ -12,7 +13,10 @@ ghost use Rattle.rig_core.specs.Causes.{Rose};
 ghost use Rattle.rig_core.specs.Runs.{Runs, Shows};
 ghost use Rattle.image_layout.specs.Ready.{Stores};
 ghost use Rattle.image_mount.specs.Mounted.{IsMounted};
+ghost use Rattle.service_parts.specs.Serving.{EioOnlyIfRead, MakesFourIfDone};
 ghost use Rattle.service_parts.specs.Told.{IsTellable};
+ghost use Rattle.file_services.specs.Naming as files;
+ghost use Rattle.dir_services.specs.Naming as directories;
 
 use crate::partitions::Partitions;
 use apex_types::{
@@ -48,7 +52,8 @@ pub struct Session {
 
 impl Session {
     ghost use Rattle.module_session.specs.Calls.{IsCallTaken, IsRestarted};
-    ghost use Rattle.module_session.specs.Sessions.{table_of_session, has_failed, IsCarriedOut, IsEarly, IsOfLogbooks, IsReady, StandsFor};
+    ghost use Rattle.module_session.specs.Naming.{is_naming, name_change};
+    ghost use Rattle.module_session.specs.Sessions.{table_of_session, has_failed, reads_in, IsCarriedOut, IsEarly, IsOfLogbooks, IsReady, StandsFor};
     ghost use Rattle.module_session.specs.Steps.{IsTaken, MovesFew};
 
     /// The state of a module of this table after power on, with what was mounted from a device: no handle is open, no
@@ -111,8 +116,12 @@ impl Session {
     ) -> Result<Reply, DeviceFault>
         requires ready { IsReady R.tells_view (R.state rig.old) self.old }
         requires partition { p.0 < length (table_of_session self.old).partitions }
-        ensures { IsCallTaken R.tells_view p (calls.File call.now) self.old self.new
+        ensures taken { IsCallTaken R.tells_view p (calls.File call.now) self.old self.new
             (R.state rig.old) (R.state rig.new) result }
+        ensures unread { reads_content call.now ≡ true
+            → IfOk result (EioOnlyIfRead (R.state rig.old) (R.state rig.new)) }
+        ensures names { files.is_naming call.now ≡ true
+            → MakesFourIfDone R.keeps_cuts (R.state rig.old) (R.state rig.new) result }
     {
         let ready = self.partitions.is_ready(p);
         let Session {
@@ -133,8 +142,10 @@ impl Session {
     ) -> Result<Reply, DeviceFault>
         requires ready { IsReady R.tells_view (R.state rig.old) self.old }
         requires partition { p.0 < length (table_of_session self.old).partitions }
-        ensures { IsCallTaken R.tells_view p (calls.Directory call.now) self.old self.new
+        ensures taken { IsCallTaken R.tells_view p (calls.Directory call.now) self.old self.new
             (R.state rig.old) (R.state rig.new) result }
+        ensures names { directories.is_naming call.now ≡ true
+            → MakesFourIfDone R.keeps_cuts (R.state rig.old) (R.state rig.new) result }
     {
         let ready = self.partitions.is_ready(p);
         let Session {
@@ -238,8 +249,12 @@ impl Session {
     ) -> Result<Reply, DeviceFault>
         requires ready { IsReady R.tells_view (R.state rig.old) self.old }
         requires partition { p.0 < length (table_of_session self.old).partitions }
-        ensures { IsCallTaken R.tells_view p call.now self.old self.new
+        ensures taken { IsCallTaken R.tells_view p call.now self.old self.new
             (R.state rig.old) (R.state rig.new) result }
+        ensures unread { reads_file call.now ≡ true
+            → IfOk result (EioOnlyIfRead (R.state rig.old) (R.state rig.new)) }
+        ensures names { is_naming call.now ≡ true
+            → MakesFourIfDone R.keeps_cuts (R.state rig.old) (R.state rig.new) result }
     {
         match call {
             Call::File(call) => self.file(p, call, rig),
@@ -256,8 +271,12 @@ impl Session {
         requires ready { IsReady R.tells_view (R.state rig.old) self.old }
         requires of_table { IsLineOf (table_of_session self.old) line.now }
         requires early { IsEarly line.now.number self.old }
-        ensures { IsTaken R.tells_view line.now self.old self.new
+        ensures taken { IsTaken R.tells_view line.now self.old self.new
             (R.state rig.old) (R.state rig.new) result }
+        ensures unread { reads_in line.now.deed ≡ true → IfOk result (λ reply.
+            ForSome reply (EioOnlyIfRead (R.state rig.old) (R.state rig.new))) }
+        ensures names { R.keeps_cuts → IfOk result (λ reply.
+            (R.state rig.old).clock + 4 * name_change line.now.deed reply ≤ (R.state rig.new).clock) }
     {
         match &line.deed {
             Deed::Tick(ticks) => {
@@ -276,6 +295,8 @@ impl Session {
     /// reply tells so, and the world is as it was. After a fault the session has failed; it comes only where the rig's
     /// write faults rose, or in a tick or a call of logbooks its read faults. At every moment a cut leaves each tree and
     /// each logbook as before the line or as after it, each by itself, and nothing changes behind the table's layout.
+    /// A reply of EIO to a call that may need to read a content comes only where a read failed. A change of names that is
+    /// done takes four calls of the device at least, where cuts are kept.
     /// A line that is early is still so for the next: the time, in ticks, stays below 2 ^ 32.
     pub fn step<R: Rig>(&mut self, line: &Line, rig: &mut R) -> Result<Option<Reply>, DeviceFault>
         requires ready { IsReady R.tells_view (R.state rig.old) self.old }
@@ -297,6 +318,10 @@ impl Session {
         ensures cause { OnErr result (Rose (R.state rig.old).write_faults (R.state rig.new).write_faults
             ⊎ (IsOfLogbooks line.now.deed × Rose (R.state rig.old).read_faults (R.state rig.new).read_faults)) }
         ensures tellable { IfOk result (λ reply. ForSome reply IsTellable) }
+        ensures unread { reads_in line.now.deed ≡ true → IfOk result (λ reply.
+            ForSome reply (EioOnlyIfRead (R.state rig.old) (R.state rig.new))) }
+        ensures names { R.keeps_cuts → IfOk result (λ reply.
+            (R.state rig.old).clock + 4 * name_change line.now.deed reply ≤ (R.state rig.new).clock) }
     {
         match self.take(line, rig) {
             Ok(reply) => Ok(reply),

@@ -50,9 +50,8 @@ module _ (T V K : Type 0) (table : Rows) (lines : List Line) (tellers : ℕ → 
     k = halts.fails.k;
     at = halts.fails.at;
     text = halts.fails.text;
-    cause = λ v w stands valid.
-        ⊎_elim (λ rose. inl (rose-after o.write_faults o.write_faults m.write_faults e.write_faults (omega arith) rose tell.later.write_faults))
-        (λ rose. inr (rose-after o.read_faults o.read_faults m.read_faults e.read_faults (omega arith) rose tell.later.read_faults)) (halts.fails.cause v w stands valid);
+    cause = ⊎_elim (λ rose. inl (rose-after o.write_faults o.write_faults m.write_faults e.write_faults (omega arith) rose tell.later.write_faults))
+        (λ rose. inr (rose-after o.read_faults o.read_faults m.read_faults e.read_faults (omega arith) rose tell.later.read_faults)) halts.fails.cause;
   }
 
   same-line : fault_line number ≡ fault_line halts.line.number

@@ -1,5 +1,5 @@
 -- From one line to the next, where only the replies to some partitions are told and no read fails.
-use Rattle.std.proofs.Common.{◌≡◌, ◌≢◌, inl, inr, ⊎_elim, ◌⊎◌, ℕ, ◌+◌, ◌<◌, ◌≤◌, Bool, true, false, List, [], ◌∷◌, ◌++◌, length, refl, sym, ap, ◌∙◌, subst, arith, append_assoc, append-nil, suc}
+use Rattle.std.proofs.Common.{◌≡◌, ◌≢◌, inl, inr, ⊎_elim, ◌⊎◌, ℕ, ◌+◌, ◌*◌, ◌<◌, ◌≤◌, Bool, true, false, List, [], ◌∷◌, ◌++◌, length, refl, sym, ap, ◌∙◌, subst, arith, append_assoc, append-nil, suc}
 use Rattle.std.specs.Prelude.{if◌then◌else◌, map, take, drop, slice_get, Option, Some, None}
 use Rattle.std.specs.List.{AllByRecursion}
 use Rattle.std.proofs.lemmas.List.Elements.{filter-append}
@@ -21,6 +21,7 @@ use Rattle.apex_model.specs.World.{World, call_step}
 use Rattle.image_layout.specs.Ready.{Stores}
 use Rattle.model_laws.specs.RunText.{ReplyLinesTell, is_failure, failures_of}
 use Rattle.model_laws.proofs.PlainSteps.{call_step-plain}
+use Rattle.module_session.specs.Naming.{name_change}
 use Rattle.module_session.specs.Sessions.{table_of_session, reply_in, IsEarly, IsReady, StandsFor}
 use Rattle.module_session.specs.declared.session.Session.{Session}
 use Rattle.module_session.proofs.Ready.{session_in_step, ready_after_told, stands_after_told}
@@ -31,11 +32,13 @@ use Rattle.rig_core.proofs.Moments.{pairs_none, pairs_then}
 use Rattle.script_model.specs.Numbering.{AreNumbered}
 use Rattle.script_run.specs.Chosen.{told_to, IsOwnPair, LeavesOwnPairs, Served, HaltsAt, StopsAt}
 use Rattle.script_run.specs.Heard.{heard_text, IsPlainlyDone}
+use Rattle.script_run.specs.Names.{CountsNames}
 use Rattle.script_run.specs.Tally.{tally_of, IsTallyOf, IsWithin}
 use Rattle.script_run.specs.Told.{TellsText}
 use Rattle.script_run.specs.declared.tally.Tally.{Tally}
 use Rattle.script_run.proofs.Choice.{heard-own}
 use Rattle.script_run.proofs.Moments.{Tells, tells-lines, silent-pairs, told-pairs, during-left, reply-left, NoneFailed, pairs-of_own}
+use Rattle.script_run.proofs.Names.{names-more}
 use Rattle.script_run.proofs.OneLine.{failures-append, text-append, replies-more, world-more}
 use Rattle.script_run.proofs.Parts.{part-after, back-some, rose-after}
 use Rattle.script_run.proofs.Rising.{above, behind-line}
@@ -86,7 +89,7 @@ pub record ReachedFor (T V : Type 0) (table : Rows) (lines : List Line) (tellers
   pub pairs : LeavesOwnPairs T V table lines tellers first o e
 
 none-within : IsWithin 0 (tally_of [])
-none-within = record { no_error = omega arith; no_action = omega arith; not_available = omega arith; invalid_param = omega arith; invalid_config = omega arith; invalid_mode = omega arith; data_bytes = omega arith }
+none-within = record { replies = omega arith; no_error = omega arith; no_action = omega arith; not_available = omega arith; invalid_param = omega arith; invalid_config = omega arith; invalid_mode = omega arith; data_bytes = omega arith }
 
 pub reached-none_for : {T V K : Type 0} → StepKeepsValid → (lines : List Line) (tellers : ℕ → Bool) (first : Session) (o : Outside) (tally : Tally) → Sound V K o → IsReady V o first → IsEarly 1 first → AreNumbered lines
     → tally ≡ tally_of [] → ReachedFor T V (table_of_session first) lines tellers 0 first o first tally o
@@ -132,11 +135,8 @@ made-plain {V} table own line session next reply o e same later quiet ready kept
 }
 
 -- why the device failed in a line
-abbrev pub HasFailed : Type 0 → Rows → Session → Outside → Outside → Type 0
-HasFailed V table session o e = V → (w : World) → StandsFor V o session w → IsValid table w → Rose o.write_faults e.write_faults ⊎ Rose o.read_faults e.read_faults
-
-pub made-failed : {V : Type 0} (table own : Rows) (session : Session) (o e : Outside) → own ≡ table → HasFailed V own session o e → HasFailed V table session o e
-made-failed {V} table own session o e same cause = subst (λ (t : Rows). HasFailed V t session o e) same cause
+abbrev pub HasFailed : Outside → Outside → Type 0
+HasFailed o e = Rose o.write_faults e.write_faults ⊎ Rose o.read_faults e.read_faults
 
 -- The lines of a script for a table, of which the first k were carried out, and the one that is next.
 pub record AtOwn (T V : Type 0) (table : Rows) (lines : List Line) (tellers : ℕ → Bool) (first : Session) (o : Outside) (k : ℕ) (line : Line) (session : Session) (tally : Tally) (m : Outside) : Type 0 where
@@ -172,7 +172,7 @@ module _ (T V K : Type 0) (table : Rows) (lines : List Line) (tellers : ℕ → 
       ((moments (here w) (served.stands w stands)).any_moment v)))
 
   -- the device failed in the line
-  pub own-halts : (m2 : Outside) → Later m m2 → m2.told ≡ m.told → HasFailed V table session m m2 → HaltsAt T V table lines tellers first o m2 line.number
+  pub own-halts : (m2 : Outside) → Later m m2 → m2.told ≡ m.told → HasFailed m m2 → HaltsAt T V table lines tellers first o m2 line.number
   own-halts m2 later quiet cause = record {
     line = line;
     due = served.due;
@@ -180,10 +180,9 @@ module _ (T V K : Type 0) (table : Rows) (lines : List Line) (tellers : ℕ → 
       k = k;
       at = is_at.at;
       text = served.text;
-      cause = λ v w stands valid.
-          ⊎_elim (λ rose. inl (rose-after o.write_faults m.write_faults m2.write_faults m2.write_faults is_at.reached.later.write_faults rose (omega arith)))
+      cause = ⊎_elim (λ rose. inl (rose-after o.write_faults m.write_faults m2.write_faults m2.write_faults is_at.reached.later.write_faults rose (omega arith)))
           (λ rose. inr (rose-after o.read_faults m.read_faults m2.read_faults m2.read_faults is_at.reached.later.read_faults rose (omega arith)))
-          (cause v (here w) (served.stands w stands) (lines-valid is_at.step table is_at.accepted [] w (take k lines) valid));
+          cause;
     };
     number_is = refl;
     told = λ t. quiet ∙ served.told t;
@@ -243,6 +242,13 @@ module _ (T V K : Type 0) (table : Rows) (lines : List Line) (tellers : ℕ → 
       rose = rose-after o.tell_faults m2.tell_faults e.tell_faults e.tell_faults (let a = is_at.reached.later.tell_faults in let b = steps.later.tell_faults in omega (arith, a, b)) rose (omega arith);
       part = λ t. part-after o.told m2.told e.told served.due (heard_text tellers line reply) (steps.quiet ∙ served.told t) (tell.part t);
     }
+
+    -- and names were changed as often
+    pub own-names : CountsNames K V table (take k lines) first o m → (K → m.clock + 4 * name_change line.deed reply ≤ m2.clock) → CountsNames K V table (take (k + 1) lines) first o e
+    own-names before own kept v w stands =
+        let more = names-more table w lines k line is_at.at in
+        let same = ap (name_change line.deed) (reply-is v w stands) in
+        omega (arith, more, same, before kept v w stands, own kept, tell.later.clock)
 
     pub own-later : Later o e
     own-later = later_then o m2 e (later_then o m m2 is_at.reached.later steps.later) tell.later

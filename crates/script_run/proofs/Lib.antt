@@ -2,6 +2,7 @@ pub mod Choice
 mod Faults
 mod Hearing
 mod Moments
+mod Names
 pub mod OneLine
 pub mod OwnRuns
 pub mod Parts

@@ -31,7 +31,7 @@ use Rattle.script_run.proofs.Choice.{all-told, own-text}
 
 -- ---- lists
 
-take-line : (lines : List Line) (k : ℕ) (line : Line) → slice_get lines k ≡ Some line → take (k + 1) lines ≡ take k lines ++ line ∷ []
+pub take-line : (lines : List Line) (k : ℕ) (line : Line) → slice_get lines k ≡ Some line → take (k + 1) lines ≡ take k lines ++ line ∷ []
 take-line lines k line at = take_more lines k line (slice_get_within lines k line at) ∙ ap (λ (l : Line). take k lines ++ l ∷ []) (get_or_from_slice_get lines k line line at)
 
 pub drop-line : (lines : List Line) (k : ℕ) (line : Line) → slice_get lines k ≡ Some line → drop k lines ≡ line ∷ drop (k + 1) lines

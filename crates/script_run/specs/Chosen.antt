@@ -75,8 +75,7 @@ pub record FailsAt (tells_view : Type 0) (table : Rows) (lines : List Line) (tel
   pub k : ℕ
   pub at : slice_get lines k ≡ Some line
   pub text : IsOwnText tells_view table (take k lines) tellers first o due
-  pub cause : tells_view → (w : World) → StandsFor tells_view o first w → IsValid table w
-      → Rose o.write_faults e.write_faults ⊎ Rose o.read_faults e.read_faults
+  pub cause : Rose o.write_faults e.write_faults ⊎ Rose o.read_faults e.read_faults
 
 -- It failed in the line of a number, and that was not told.
 pub record HaltsAt (tells_text tells_view : Type 0) (table : Rows) (lines : List Line)

@@ -1,5 +1,5 @@
 -- One line of a script in which no read may fail, and of which the reply is told or not.
-use Rattle.std.specs.Prelude.{◌≡◌, ℕ, Bool, false, List, [], if◌then◌else◌, Option, Some, None}
+use Rattle.std.specs.Prelude.{◌≡◌, ◌&&◌, ℕ, Bool, false, List, [], if◌then◌else◌, Option, Some, None}
 use Rattle.apex_types.specs.Rows.{Rows}
 use Rattle.apex_types.specs.declared.calls.Line.{Line}
 use Rattle.apex_types.specs.declared.replies.Reply.{Reply}
@@ -7,7 +7,7 @@ use Rattle.apex_model.specs.FailedReads.{world_after_line}
 use Rattle.apex_model.specs.Moments.{is_told}
 use Rattle.apex_model.specs.World.{World}
 use Rattle.model_laws.specs.RunText.{tells_eio}
-use Rattle.module_session.specs.Sessions.{StandsFor, reply_in}
+use Rattle.module_session.specs.Sessions.{StandsFor, reads_in, reply_in}
 use Rattle.module_session.specs.declared.session.Session.{Session}
 use Rattle.rig_core.specs.Outside.{Outside}
 use Rattle.script_run.specs.Told.{told_line}
@@ -17,10 +17,14 @@ abbrev pub heard_text : (ℕ → Bool) → Line → Option Reply → List ℕ
 heard_text tellers line reply =
     if is_told tellers line then told_line line.number reply else []
 
--- whether this is the reply of a call whose read failed
-abbrev pub is_unread : Option Reply → Bool
-is_unread None = false
-is_unread (Some reply) = tells_eio reply.errno
+-- whether a reply has the errno of a failed read
+abbrev pub has_eio : Option Reply → Bool
+has_eio None = false
+has_eio (Some reply) = tells_eio reply.errno
+
+-- whether this is the reply to a line whose read failed
+abbrev pub is_unread : Line → Option Reply → Bool
+is_unread line reply = reads_in line.deed && has_eio reply
 
 -- The line was carried out, and no read failed in it.
 pub record IsPlainlyDone (tells_view : Type 0) (table : Rows) (line : Line) (old new : Session)

@@ -1,5 +1,6 @@
 pub mod Chosen
 pub mod Heard
+pub mod Names
 pub mod OwnLines
 pub mod Pairs
 pub mod Reached

@@ -51,6 +51,7 @@ data_size _ = 0
 -- the tally of some replies
 abbrev pub tally_of : List Told → Tally
 tally_of replies = record {
+  replies = length replies;
   no_error = code_count is_no_error replies;
   no_action = code_count is_no_action replies;
   not_available = code_count is_not_available replies;
@@ -62,6 +63,7 @@ tally_of replies = record {
 
 -- The tally is no higher than n replies can make it: each holds 4,096 bytes at most.
 pub record IsWithin (n : ℕ) (tally : Tally) : Type 0 where
+  pub replies : tally.replies ≤ n
   pub no_error : tally.no_error ≤ n
   pub no_action : tally.no_action ≤ n
   pub not_available : tally.not_available ≤ n

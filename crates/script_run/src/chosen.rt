@@ -1,28 +1,29 @@
 // A script's lines carried out in order up to the first that the device fails in, with the replies counted, and those
 // to one partition told.
-ghost use Rattle.std.specs.Prelude.{◌≡◌, ◌≢◌, ◌⊎◌, ◌+◌, ◌≤◌, ℕ, [], ◌∷◌, ◌++◌, List, Option, Some, None, IfOk, OnOk, OnErr, Ok, Err, length};
+ghost use Rattle.std.specs.Prelude.{◌≡◌, ◌≢◌, ◌⊎◌, ◌+◌, ◌*◌, ◌≤◌, ℕ, [], ◌∷◌, ◌++◌, List, Option, Some, None, IfOk, OnOk, OnErr, Ok, Err, length};
 ghost use Rattle.std.specs.List.{AllByRecursion};
 ghost use Rattle.std.specs.Option.{ForSome};
 ghost use Rattle.apex_model.specs.Durable.{IsCutDuring};
 ghost use Rattle.apex_model.specs.Lines.{IsLineOf};
 ghost use Rattle.apex_model.specs.Moments.{is_told};
 ghost use Rattle.apex_model.specs.Run.{Told};
-ghost use Rattle.apex_model.specs.Validity.{IsValid};
 ghost use Rattle.apex_model.specs.World.{World};
 ghost use Rattle.image_layout.specs.Ready.{Stores};
-ghost use Rattle.module_session.specs.Sessions.{table_of_session, IsEarly, IsReady, StandsFor};
+ghost use Rattle.module_session.specs.Sessions.{reads_in, table_of_session, IsEarly, IsReady, StandsFor};
+ghost use Rattle.module_session.specs.Naming.{name_change};
 ghost use Rattle.rig_core.specs.Causes.{Rose};
 ghost use Rattle.rig_core.specs.Outside.{Later};
 ghost use Rattle.rig_core.specs.Runs.{Shows};
 ghost use Rattle.script_run.specs.Chosen.{is_hearer, HaltsAt, HaltsHeard, LeavesOwnPairs, Served, StopsAt, StopsHearing};
 ghost use Rattle.script_run.specs.Heard.{heard_text, is_unread, IsPlainlyDone};
+ghost use Rattle.script_run.specs.Names.{CountsNames};
 ghost use Rattle.script_run.specs.Tally.{tally_of, IsTallyOf, IsWithin};
 ghost use Rattle.script_run.specs.Told.{TellsText};
 ghost use Rattle.service_parts.specs.Told.{IsTellable};
 
 use crate::lines::{LineStop, tell_fault, tell_reply};
 use crate::tally::Tally;
-use apex_types::{Deed, Errno, Line, PartitionId, Reply};
+use apex_types::{Call, Deed, Errno, FileCall, Line, PartitionId, Reply};
 use call_script::Script;
 use model_laws::{reply_lines_tell, step_keeps_valid};
 use module_session::Session;
@@ -37,10 +38,28 @@ pub enum Halt {
     Tell,
 }
 
-// Whether this is the reply of a call whose read failed.
-fn is_unread(reply: &Option<Reply>) -> bool
-    ensures { result ≡ is_unread reply.now }
+// Whether a line is a call that may need to read a file's content.
+fn reads_content(line: &Line) -> bool
+    ensures { result ≡ reads_in line.now.deed }
 {
+    let Deed::Partition { call, .. } = &line.deed else {
+        return false;
+    };
+    match call {
+        Call::File(
+            FileCall::ReadFile { .. } | FileCall::WriteFile { .. } | FileCall::ResizeFile { .. },
+        ) => true,
+        _ => false,
+    }
+}
+
+// Whether this is the reply to a line whose read failed.
+fn is_unread(line: &Line, reply: &Option<Reply>) -> bool
+    ensures { result ≡ is_unread line.now reply.now }
+{
+    if !reads_content(line) {
+        return false;
+    }
     match reply {
         None => false,
         Some(reply) => matches!(reply.errno, Some(Errno::Eio)),
@@ -68,16 +87,16 @@ fn step_whole<R: Rig>(
     ensures done { IfOk result (IsPlainlyDone R.tells_view (table_of_session session.old) line.now
         session.old session.new (R.state rig.old) (R.state rig.new)) }
     ensures tellable { IfOk result (λ reply. ForSome reply IsTellable) }
-    ensures cause { OnErr result (R.tells_view → (w : World)
-        → StandsFor R.tells_view (R.state rig.old) session.old w
-        → IsValid (table_of_session session.old) w
-        → Rose (R.state rig.old).write_faults (R.state rig.new).write_faults
+    ensures cause { OnErr result (Rose (R.state rig.old).write_faults (R.state rig.new).write_faults
         ⊎ Rose (R.state rig.old).read_faults (R.state rig.new).read_faults) }
+    ensures untold { (R.state rig.new).tells ≤ (R.state rig.old).tells }
+    ensures names { R.keeps_cuts → IfOk result (λ reply.
+        (R.state rig.old).clock + 4 * name_change line.now.deed reply ≤ (R.state rig.new).clock) }
 {
     match session.step(line, rig) {
         Err(fault) => Err(fault),
         Ok(reply) => {
-            if is_unread(&reply) {
+            if is_unread(line, &reply) {
                 return Err(DeviceFault);
             }
             Ok(reply)
@@ -116,6 +135,7 @@ fn tell_heard<R: Rig>(
     ensures cause { OnErr result
         (Rose (R.state rig.old).tell_faults (R.state rig.new).tell_faults) }
     ensures silent { hearer ≡ None → (R.state rig.new).told ≡ (R.state rig.old).told }
+    ensures untold { hearer ≡ None → (R.state rig.new).tells ≡ (R.state rig.old).tells }
 {
     if !is_heard(line, hearer) {
         return Ok(());
@@ -139,7 +159,7 @@ fn count_reply(tally: &mut Tally, reply: &Option<Reply>)
 
 /// Carries out the lines of a script in order up to the first in which the device fails, also where that is a read of a
 /// call. Of the replies it tells those to a partition, or none, and ends where telling fails. It gives the tally of all
-/// replies.
+/// replies. Where cuts are kept, each change of names takes four calls of the device at least.
 pub fn carry_out_for<R: Rig>(
     session: &mut Session,
     script: &Script,
@@ -167,6 +187,9 @@ pub fn carry_out_for<R: Rig>(
     ensures later { Later (R.state rig.old) (R.state rig.new) }
     ensures silent { hearer ≡ None → (R.state rig.new).told ≡ (R.state rig.old).told }
     ensures untold { hearer ≡ None → result ≢ Err Halt.Tell }
+    ensures tells { hearer ≡ None → (R.state rig.new).tells ≤ (R.state rig.old).tells }
+    ensures names { OnOk result (CountsNames R.keeps_cuts R.tells_view
+        (table_of_session session.old) script.now session.old (R.state rig.old) (R.state rig.new)) }
 {
     // Laws of the definitions, on which what a cut leaves beside the text rests.
     step_keeps_valid();

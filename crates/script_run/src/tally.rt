@@ -5,9 +5,11 @@ ghost use Rattle.script_run.specs.Tally.{data_size, tally_of, IsWithin};
 
 use apex_types::{Reply, ReturnCode, Values};
 
-/// How many replies had each return code, and how much data the replies held. No reply has TIMED_OUT.
+/// How many replies there were, how many had each return code, and how much data they held. No reply
+/// has TIMED_OUT.
 #[derive(Clone, Copy)]
 pub struct Tally {
+    pub replies: u32,
     pub no_error: u32,
     pub no_action: u32,
     pub not_available: u32,
@@ -37,6 +39,7 @@ impl Tally {
         ensures { result ≡ tally_of [] }
     {
         Tally {
+            replies: 0,
             no_error: 0,
             no_action: 0,
             not_available: 0,
@@ -47,14 +50,15 @@ impl Tally {
         }
     }
 
-    /// Counts a reply. No script has more than 20,000 lines, and no reply more than 4,096 bytes of data, so that no
-    /// count wraps.
+    /// Counts a reply. No script has more than 20,000 lines, and no reply more than 4,096 bytes of
+    /// data, so that no count wraps.
     pub fn add(&mut self, reply: &Reply)
         requires few { IsWithin 19999 self.old }
         ensures added { (replies : List Told) (told : Told) → told.reply ≡ reply.now
             → self.old ≡ tally_of replies → self.new ≡ tally_of (replies ++ told ∷ []) }
         ensures within { (n : ℕ) → IsWithin n self.old → IsWithin (n + 1) self.new }
     {
+        self.replies += 1;
         self.data_bytes += data_size(&reply.values);
         match reply.code {
             ReturnCode::NoError => self.no_error += 1,

@@ -12,8 +12,8 @@ dir_call-requires-clause-laid_out g c =
     let size = (g.R.Rig.state c.args.rig.now).size in
     subst (λ (sites : List TreeSite). AreLaidOut (map window_of sites) size) (sym step.tree_sites) (trees_laid_out c.args.self.now.table size step.superblock.room)
 
-pub returns : goal.returns
-returns g c =
+pub returns-clause-taken : goal.returns-clause-taken
+returns-clause-taken g c =
     let o = g.R.Rig.state c.args.rig.now in
     let e = g.R.Rig.state c.dir_call.new.rig in
     let done = c.dir_call.ensures in
