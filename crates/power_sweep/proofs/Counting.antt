@@ -1,5 +1,6 @@
 -- One image more is counted, and the room that there is for more.
-use Rattle.std.proofs.Common.{◌≡◌, ℕ, ◌+◌, ◌*◌, ◌-◌, ◌^◌, ◌≤◌, List, ◌∷◌, sym, ◌∙◌, subst, arith}
+use Rattle.std.proofs.Common.{◌≡◌, ℕ, ◌+◌, ◌*◌, ◌-◌, ◌^◌, ◌≤◌, List, [], ◌∷◌, refl, sym, ◌∙◌, subst, arith}
+use Rattle.std.specs.Prelude.{Err, Ok, OnOk, Result}
 use Rattle.std.proofs.lemmas.List.Sums.{sum_by-cons}
 use Rattle.apex_types.specs.Rows.{Rows}
 use Rattle.apex_types.specs.declared.calls.Line.{Line}
@@ -21,6 +22,18 @@ one-more table lines images old new stored are left more mounted files =
       left = (left, are.left);
       files = omega (arith, files, are.files, sum);
     }
+
+-- nothing was counted yet
+pub none-mounted : (table : Rows) (lines : List Line) (swept : Swept) → swept.images ≡ 0 → swept.mounted ≡ 0 → swept.files ≡ 0 → AreMounted table lines 0 swept
+none-mounted table lines swept images mounted files = record { images_are = images; mounted = mounted; states = []; one_each = refl; left = tt; files = files }
+
+pub none-room : (swept : Swept) → swept.images ≡ 0 → swept.mounted ≡ 0 → swept.files ≡ 0 → HasRoom 3 swept
+none-room swept images mounted files = record { images = omega (arith, images); mounted = omega (arith, images, mounted); files = omega (arith, images, files) }
+
+-- what follows where a call comes to its end
+pub on-ok : {T E : Type 0} (result : Result T E) (P Q : Type 0) → (P → Q) → OnOk result P → OnOk result Q
+on-ok (Ok done) P Q follows has = follows has
+on-ok (Err fault) P Q follows has = tt
 
 pub room-for : (m n : ℕ) (s : Swept) → m ≤ n → HasRoom n s → HasRoom m s
 room-for m n s le room = record { images = omega (arith, le, room.images); mounted = room.mounted; files = room.files }

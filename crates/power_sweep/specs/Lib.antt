@@ -1,3 +1,6 @@
+pub mod Counted
+pub mod CountedRig
 pub mod Counts
 pub mod Cuts
 pub mod Stores
+pub mod Whole

@@ -7,7 +7,9 @@ ghost use Rattle.rig_core.specs.FuseRig.{fuse_state, is_fuse_starved};
 ghost use Rattle.recover_scan.specs.Format.{IsFormatted};
 ghost use Rattle.rig_core.specs.Outside.{AllNow};
 ghost use Rattle.power_sweep.specs.Cuts.{IsLeftImage};
+ghost use Rattle.power_sweep.specs.Whole.{IsWholeRun};
 
+use crate::counted::CountedRig;
 use apex_types::{ByteList, OutOfMemory, Table};
 use call_script::Script;
 use image_mount::mount;
@@ -23,10 +25,12 @@ pub(crate) struct FusedRun {
     pub table: Table,
     /// The device, of which a cut takes what it may leave now.
     pub rig: FuseRig,
+    /// Whether as many writes and syncs were let pass as may.
+    pub used_up: bool,
 }
 
-/// Mounts an empty image and carries out a script on it. The power fails after so many writes and syncs. Where the
-/// device's record can't grow, no run is given.
+/// Mounts an empty image and carries out a script on it. The power fails after so many writes and syncs. Where fewer of
+/// them were made, all lines were carried out. Where the device's record can't grow, no run is given.
 pub(crate) fn fused_run(
     alloc: Global,
     table: Table,
@@ -41,8 +45,10 @@ pub(crate) fn fused_run(
     ensures fed { IfOk result (λ run. is_fuse_starved run.rig ≡ false) }
     ensures cuts { IfOk result (λ run. AllNow (IsLeftImage table script.now)
         (fuse_state run.rig)) }
+    ensures whole { IfOk result (λ run. run.used_up ≡ false
+        → IsWholeRun table script.now run.rig) }
 {
-    let mut rig = FuseRig::new(alloc, image.copy()?, calls)?;
+    let mut rig = CountedRig::new(alloc, image.copy()?, calls)?;
     let Ok(store) = mount(alloc, &table, &mut rig) else {
         return Err(OutOfMemory);
     };
@@ -52,6 +58,12 @@ pub(crate) fn fused_run(
     if rig.starved() {
         return Err(OutOfMemory);
     }
+    let used_up = rig.is_used_up();
     let table = session.finish();
-    Ok(FusedRun { table, rig })
+    let rig = rig.into_disk();
+    Ok(FusedRun {
+        table,
+        rig,
+        used_up,
+    })
 }

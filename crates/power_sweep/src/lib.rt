@@ -2,6 +2,7 @@
 //! mounted.
 #![tactic(auto)]
 
+mod counted;
 mod empty;
 mod fused;
 mod mounted;
