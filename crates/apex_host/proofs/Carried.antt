@@ -22,7 +22,7 @@ use Rattle.script_run.specs.Pairs.{IsPair}
 use Rattle.script_run.specs.Reached.{IsDue, Reached, Halts, IsDueAtStop, replies_due, fault_due, StopsTelling, LeavesRunPairs}
 use Rattle.script_run.proofs.OneLine.{text-front}
 use Rattle.apex_host.specs.Disk.{LeavesDisk, ran, run_failed, BeginsRun, LeavesRun, HoldsRun}
-use Rattle.apex_host.specs.Endings.{IsTableOf, GaveTable, GaveScript, seen, EndsSo, IsRunText, StandsForOne}
+use Rattle.apex_host.specs.Endings.{IsTableOf, GaveTable, GaveScript, seen, EndsSo, IsRunText}
 use Rattle.apex_host.specs.Opening.{StartsFrom}
 use Rattle.apex_host.specs.Told.{run_text, TellsPart}
 use Rattle.apex_host.specs.declared.command.Command.TheVariants.{Run}

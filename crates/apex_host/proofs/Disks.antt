@@ -5,13 +5,16 @@ use Rattle.rig_core.specs.Leaves.{Leaves, LeavesPairs, IsAllSettled}
 use Rattle.rig_core.specs.Outside.{Outside, Sound, Later, MakesAtMost, Speaks, OnlyReads}
 use Rattle.rig_core.proofs.Moments.{pairs_none, pairs_then, pairs_weaker, leaves_both}
 use Rattle.apex_types.specs.Rows.{Rows}
+use Rattle.apex_model.specs.Durable.{IsCut}
+use Rattle.apex_model.specs.World.{World}
+use Rattle.image_layout.specs.Ready.{Stores}
 use Rattle.recover_scan.specs.Format.{OldOrFormatted, KeepsRest}
 use Rattle.recover_scan.proofs.Changes.{later_same, later_then}
-use Rattle.apex_host.specs.Disk.{WasLeft, OnlyTells, IsUntouched, IsMomentOfFormat, FormatsDisk, HoldsEmpty, IsEmptied, BeginsFormat, MakesEmpty, LeavesDisk, untouched, checked, formatted, format_failed}
+use Rattle.apex_host.specs.Disk.{WasLeft, OnlyTells, IsUntouched, IsMomentOfFormat, FormatsDisk, HoldsEmpty, IsEmptied, BeginsFormat, MakesEmpty, HoldsCutOf, LeavesDisk, untouched, checked, swept, formatted, format_failed}
 use Rattle.apex_host.specs.Endings.{IsTableOf}
 use Rattle.apex_host.specs.Told.{IsTold}
 use Rattle.apex_host.specs.declared.command.Command.{Command}
-use Rattle.apex_host.specs.declared.command.Command.TheVariants.{Format, Check}
+use Rattle.apex_host.specs.declared.command.Command.TheVariants.{Format, Check, Sweep}
 use Rattle.apex_host.specs.declared.status.Status.{Status}
 use Rattle.apex_host.specs.declared.status.Status.TheVariants.{Done, DeviceFault, ReplyFault}
 
@@ -99,6 +102,27 @@ check-leaves {T} {V} {table} {script} {result} o m e told is =
     let P : Status → Type 0 = λ r. LeavesDisk T V table script o e (Some Check) r in
     ⊎_elim (λ all. subst P (sym all.0) (checked is)) (λ part. subst P (sym part.0) (untouched (Some Check) ReplyFault (λ done. cc) is)) told
 
+-- a sweep was told, or telling it failed
+pub sweep-leaves : {T V : Type 0} {table script : Option (List ℕ)} {result : Status} {line : List ℕ} (o m e : Outside) → IsTold T line Done m e result → IsUntouched V o e → LeavesDisk T V table script o e (Some Sweep) result
+sweep-leaves {T} {V} {table} {script} {result} o m e told is =
+    let P : Status → Type 0 = λ r. LeavesDisk T V table script o e (Some Sweep) r in
+    ⊎_elim (λ all. subst P (sym all.0) (swept is)) (λ part. subst P (sym part.0) (untouched (Some Sweep) ReplyFault (λ done. cc) is)) told
+
+-- ---- a line that is told after the disk was changed
+
+-- the images that a cut may leave stay those that they were
+pub images-told : (V K : Type 0) (P : List ℕ → Type 0) (o m e : Outside) → Sound V K m → LeavesPairs (λ image told. P image) o m → OnlyTells V m e → LeavesPairs (λ image told. P image) o e
+images-told V K P o m e sound run tells =
+    pairs_then (λ image told. P image) o m e run
+    (pairs_weaker (λ image told. WasLeft m image) (λ image told. P image) m e (λ image told was. run.each image was.0 (sound.from_later o.clock m.clock image was.0 run.clock was.1)) tells.cuts)
+
+-- and so does what they stand for
+pub cut-told : (V K : Type 0) (v : V) (rows : Rows) (w : World) (m e : Outside) → Sound V K e → HoldsCutOf rows w m → OnlyTells V m e → HoldsCutOf rows w e
+cut-told V K v rows w m e sound holds tells = record {
+  images = λ image told now. let was = was-left V K m e sound tells image (told, now) in holds.images image was.0 was.1;
+  view = subst (Stores rows (IsCut w)) (sym (tells.view v)) holds.view;
+}
+
 -- ---- a line that is told after a format
 
 pub formats-leaves : (rows : Rows) (o e : Outside) → Leaves (OldOrFormatted rows o.view) o e → Leaves (KeepsRest rows o.view) o e → FormatsDisk rows o e
@@ -107,10 +131,7 @@ formats-leaves rows o e moment rest =
     record { clock = both.clock; each = both.each; before = λ u image t le left. ⊎_elim (λ was. inl was) (λ has. inr has.0) (both.before u image t le left) }
 
 formats-told : (V K : Type 0) (rows : Rows) (o m e : Outside) → Sound V K m → FormatsDisk rows o m → OnlyTells V m e → FormatsDisk rows o e
-formats-told V K rows o m e sound run tells =
-    let P : List ℕ → Type 0 = IsMomentOfFormat rows o.view in
-    pairs_then (λ image told. P image) o m e run
-    (pairs_weaker (λ image told. WasLeft m image) (λ image told. P image) m e (λ image told was. run.each image was.0 (sound.from_later o.clock m.clock image was.0 run.clock was.1)) tells.cuts)
+formats-told V K rows o m e sound run tells = images-told V K (IsMomentOfFormat rows o.view) o m e sound run tells
 
 holds-told : (V K : Type 0) (rows : Rows) (o m e : Outside) → Sound V K e → HoldsEmpty V rows o m → OnlyTells V m e → HoldsEmpty V rows o e
 holds-told V K rows o m e sound holds tells = record {

@@ -1,6 +1,6 @@
 -- What follows from how a command ends, by the reasons.
-use Rattle.std.proofs.Common.{◌≡◌, ℕ, ◌<◌, ◌≤◌, ◌⊎◌, inl, inr, ⊎_elim, List, ◌++◌, Option, Some, None, refl, sym, ◌∙◌, ap, subst, arith}
-use Rattle.std.specs.Prelude.{[], ◌∷◌, length, Result, Ok, Err, ⊤}
+use Rattle.std.proofs.Common.{◌≡◌, ℕ, ◌<◌, ◌≤◌, ◌⊎◌, inl, inr, ⊎_elim, Bool, true, false, List, ◌++◌, Option, Some, None, refl, sym, ◌∙◌, ap, subst, arith}
+use Rattle.std.specs.Prelude.{[], ◌∷◌, length, Result, Ok, Err}
 use Rattle.apex_types.specs.Rows.{Rows}
 use Rattle.apex_types.specs.declared.calls.Line.{Line}
 use Rattle.apex_model.specs.Durable.{Durable, start}
@@ -16,11 +16,12 @@ use Rattle.script_model.specs.Script.{Refusal, script_of}
 use Rattle.script_model.specs.Refusals.{refusal_line}
 use Rattle.script_run.specs.Pairs.{IsPair}
 use Rattle.apex_host.specs.Disk.{IsMomentOfFormat, FormatsDisk, BeginsFormat, LeavesRun, BeginsRun, RunsSafely, LeavesDisk, untouched, formatted, format_failed, ran as carried, run_failed}
-use Rattle.apex_host.specs.Endings.{Seen, Ends, usage, table_fault, table_refused, starved, too_small_to_format, format_fault, formatted as made, unknown_partition, script_fault, script_refused, image_refused, mount_fault, checked, fault_in_line, ran, fault_in_own_line, heard, EndsSo, IsRunText, IsHeardText, StandsForOne, IsNamed, ReadsFor, OpensImage, RefusesImage, LineFailed, GaveTable, GaveScript, DeviceFailed, image_bytes}
-use Rattle.apex_host.specs.Laws.{Means, MeansDone, MeansRefused, MeansFault, IsGiven, ReadsTable, ReadsLines, EndsWith, EndsOrStarves, IsQuiet, IsQuietRun, IsQuietFormat}
-use Rattle.apex_host.specs.Told.{run_text, own_text, formatted_line, good_line, unknown_partition_line, usage_line, table_refused_line, image_refused_line}
+use Rattle.apex_host.specs.Endings.{Seen, Ends, usage, table_fault, table_refused, starved, too_small_to_format, format_fault, formatted as made, unknown_partition, script_fault, script_refused, image_refused, mount_fault, checked, fault_in_line, ran, fault_in_own_line, heard, stress_fault, stressed, too_large, swept, is_too_large, IsSweep, EndsSo, IsRunText, IsHeardText, StandsForOne, IsNamed, ReadsFor, OpensImage, RefusesImage, LineFailed, GaveTable, GaveScript, DeviceFailed, image_bytes}
+use Rattle.power_sweep.specs.declared.sweeping.Swept.{Swept}
+use Rattle.apex_host.specs.Laws.{Means, MeansRefused, MeansFault, IsGiven, ReadsTable, ReadsLines, EndsWith, EndsOrStarves, TellsSweep, IsQuiet, IsQuietRun, IsQuietFormat}
+use Rattle.apex_host.specs.Told.{run_text, own_text, load_tally, formatted_line, good_line, stressed_line, swept_line, unknown_partition_line, too_large_line, usage_line, table_refused_line, image_refused_line}
 use Rattle.apex_host.specs.declared.command.Command.{Command}
-use Rattle.apex_host.specs.declared.command.Command.TheVariants.{Format, Run, Only, Check}
+use Rattle.apex_host.specs.declared.command.Command.TheVariants.{Format, Run, Only, Check, Stress, Sweep}
 use Rattle.apex_host.specs.declared.status.Status.{Status}
 use Rattle.apex_host.specs.declared.status.Status.TheVariants.{Done, Usage, TableRefused, ScriptRefused, ImageRefused, CommandRefused, OutOfMemory}
 use Rattle.apex_host.proofs.Cuts.{none-failed}
@@ -33,12 +34,16 @@ means-refused V old now rows r Format has is = absurd has
 means-refused V old now rows r Run has is = (has, (r, is))
 means-refused V old now rows r (Only name) has is = (has, (r, is))
 means-refused V old now rows r Check has is = (has, (r, is))
+means-refused V old now rows r (Stress seed count) has is = (has, (r, is))
+means-refused V old now rows r Sweep has is = absurd has
 
-means-fault : (V : Type 0) (old now : Seen) (c : Command) → DeviceFailed old now → MeansFault V c old now
-means-fault V old now Format rose = rose
-means-fault V old now Run rose = rose
-means-fault V old now (Only name) rose = λ v. rose
-means-fault V old now Check rose = rose
+means-fault : (old now : Seen) (rows : Rows) (c : Command) → OpensImage old now rows c → DeviceFailed old now → MeansFault c old now
+means-fault old now rows Format has rose = rose
+means-fault old now rows Run has rose = rose
+means-fault old now rows (Only name) has rose = rose
+means-fault old now rows Check has rose = rose
+means-fault old now rows (Stress seed count) has rose = rose
+means-fault old now rows Sweep has rose = has
 
 state-of : {view : List ℕ} {rows : Rows} {P : Durable → Type 0} → StandsForOne rows view P → (stored : Durable) × (state_of rows view ≡ Ok stored)
 state-of one = (one.stored, one.image)
@@ -55,12 +60,16 @@ module _ {V : Type 0} {old now : Seen} where
   reason-means (script_fault c rows gave reads rose) = inr rose
   reason-means (script_refused c rows r gave reads is) = (c, refl, (rows, r, gave, reads, is))
   reason-means (image_refused c rows r gave has is) = (c, refl, (rows, gave, means-refused V old now rows r c has is))
-  reason-means (mount_fault c rows gave has rose) = (c, refl, means-fault V old now c (inl rose))
+  reason-means (mount_fault c rows gave has rose) = (c, refl, means-fault old now rows c has (inl rose))
   reason-means (checked rows gave is) = (Check, refl, (rows, gave, (tt, λ v. state-of (is v))))
   reason-means (fault_in_line rows lines k line text gave read at is cause) = (Run, refl, ⊎_elim (λ r. inr r) (λ r. inl r.1) cause)
   reason-means (ran rows lines text gave read is) = (Run, refl, (rows, gave, ((tt, (lines, read)), λ v. state-of (is.of_image v))))
   reason-means (fault_in_own_line name rows p lines k line text gave named read at own is cause) = (Only name, refl, cause)
   reason-means (heard name rows p lines text gave named read is) = (Only name, refl, (rows, gave, (((p, named), (lines, read)), λ v. state-of (is v))))
+  reason-means (stress_fault seed count rows gave is cause) = (Stress seed count, refl, cause)
+  reason-means (stressed seed count rows tally gave is) = (Stress seed count, refl, (rows, gave, (tt, λ v. state-of (is v))))
+  reason-means (too_large rows lines gave read large) = (Sweep, refl, (rows, gave, (lines, read, large)))
+  reason-means (swept rows lines counts gave read small is) = (Sweep, refl, (rows, gave, (lines, read, small)))
   reason-means (starved c) = (c, refl, tt)
 
 pub statuses-mean : (T V : Type 0) (command : Option Command) (old now : Seen) (result : Status) → EndsSo T V command old now result → Means V command old now result
@@ -86,8 +95,11 @@ err-err w = cc
 none-some : {X : Type 0} {x : X} {o : Option X} → o ≡ None → o ≡ Some x → ⊥
 none-some {X} {x} none some = let w : ◌≡◌ {A = Option X} None (Some x) = sym none ∙ some in cc
 
-some-some : {X : Type 0} {x y : X} → ◌≡◌ {A = Option X} (Some x) (Some y) → x ≡ y
+pub some-some : {X : Type 0} {x y : X} → ◌≡◌ {A = Option X} (Some x) (Some y) → x ≡ y
 some-some w = cc
+
+true-false : ◌≡◌ {A = Bool} true false → ⊥
+true-false w = cc
 
 no-length : (xs : List ℕ) → length xs ≡ 0 → xs ≡ []
 no-length [] none = refl
@@ -136,6 +148,10 @@ module _ {old now : Seen} (e : TableError) (quiet : IsQuiet old now) (reads : Re
   refused-reason (ran rows lines text gave read is) = absurd (none-given gave)
   refused-reason (fault_in_own_line name rows p lines k line text gave named read at own is cause) = absurd (none-given gave)
   refused-reason (heard name rows p lines text gave named read is) = absurd (none-given gave)
+  refused-reason (stress_fault seed count rows gave is cause) = absurd (none-given gave)
+  refused-reason (stressed seed count rows tally gave is) = absurd (none-given gave)
+  refused-reason (too_large rows lines gave read large) = absurd (none-given gave)
+  refused-reason (swept rows lines counts gave read small is) = absurd (none-given gave)
   refused-reason (starved c) = inr refl
 
 pub refuses-tables : (T V : Type 0) (c : Command) (old now : Seen) (result : Status) (e : TableError) → EndsSo T V (Some c) old now result → IsQuiet old now → ReadsTable old (Err e) → EndsOrStarves T old now result TableRefused (table_refused_line e)
@@ -168,6 +184,8 @@ module _ {old now : Seen} {rows : Rows} (quiet : IsQuiet old now) (reads : Reads
       no-input Run wants gave has = no-lines gave has.1.1
       no-input (Only name) wants gave has = no-lines gave has.1.1
       no-input Check wants gave has = wants
+      no-input (Stress seed count) wants gave has = wants
+      no-input Sweep wants gave has = has
 
       script-reason : {V : Type 0} {c : Command} {status : Status} {due : List ℕ} → ReadsFor rows c → Ends V old now (Some c) status due → IsReason status due ScriptRefused (refusal_line refusal) ⊎ (status ≡ OutOfMemory)
       script-reason wants (table_fault c rose) = absurd (quiet.table rose)
@@ -185,6 +203,10 @@ module _ {old now : Seen} {rows : Rows} (quiet : IsQuiet old now) (reads : Reads
       script-reason wants (ran a lines text gave given is) = absurd (no-lines gave given)
       script-reason wants (fault_in_own_line name a p lines k line text gave named given at own is cause) = absurd (no-lines gave given)
       script-reason wants (heard name a p lines text gave named given is) = absurd (no-lines gave given)
+      script-reason wants (stress_fault seed count a gave is cause) = absurd wants
+      script-reason wants (stressed seed count a tally gave is) = absurd wants
+      script-reason wants (too_large a lines gave given large) = absurd (no-lines gave given)
+      script-reason wants (swept a lines counts gave given small is) = absurd (no-lines gave given)
       script-reason wants (starved c) = inr refl
 
     -- the lines that they are, else
@@ -248,9 +270,22 @@ module _ {old now : Seen} {rows : Rows} (quiet : IsQuiet old now) (reads : Reads
         own-reason (script_refused c a found gave reads is) = absurd (no-refusal still spelled refl gave is)
         own-reason (image_refused c a r gave has is) = inl (r, image-of gave (is.reason v), (refl, refl))
         own-reason (mount_fault c a gave has rose) = absurd (sound (inl rose))
-        own-reason (fault_in_own_line n a q found k line text gave named given at own is cause) = absurd (sound (cause v))
+        own-reason (fault_in_own_line n a q found k line text gave named given at own is cause) = absurd (sound cause)
         own-reason (heard n a q found text gave named given is) = inr (inl ((is v).stored, image-of gave (is v).image, (refl, own-text-of gave named given is)))
         own-reason (starved c) = inr (inr refl)
+
+    load-reason : (seed count : ℕ) {status : Status} {due : List ℕ} → Ends V old now (Some (Stress seed count)) status due → EndsByImage status due (λ stored. stressed_line count (load_tally rows seed count stored))
+    load-reason seed count (table_fault c rose) = absurd (quiet.table rose)
+    load-reason seed count (table_refused c error is) = absurd (no-error is)
+    load-reason seed count (script_fault c a gave reads rose) = absurd reads
+    load-reason seed count (script_refused c a found gave reads is) = absurd reads
+    load-reason seed count (image_refused c a r gave has is) = inl (r, image-of gave (is.reason v), (refl, refl))
+    load-reason seed count (mount_fault c a gave has rose) = absurd (sound (inl rose))
+    load-reason seed count (stress_fault x n a gave is cause) = absurd (sound cause)
+    load-reason seed count (stressed x n a tally gave is) =
+        let from = (is v).stored in
+        inr (inl (from, image-of gave (is v).image, (refl, ap (stressed_line count) ((is v).holds ∙ ap (λ (r : Rows). load_tally r seed count from) (same-table gave)))))
+    load-reason seed count (starved c) = inr (inr refl)
 
     check-reason : {status : Status} {due : List ℕ} → Ends V old now (Some Check) status due → EndsByImage status due (λ stored. good_line rows)
     check-reason (table_fault c rose) = absurd (quiet.table rose)
@@ -287,6 +322,36 @@ module _ {old now : Seen} {rows : Rows} (quiet : IsQuiet old now) (reads : Reads
   unknown-reason name none (fault_in_own_line n a q found k line text gave named given at own is cause) = absurd (not-named name none gave (q, named))
   unknown-reason name none (heard n a q found text gave named given is) = absurd (not-named name none gave (q, named))
   unknown-reason name none (starved c) = inr refl
+
+  -- by the size of a sweep
+  module _ (still : (Rose old.script_faults now.script_faults) → ⊥) {lines : List Line} (spelled : ReadsLines rows old (Ok lines)) where
+    size-of : {a : Rows} {found : List Line} {large : Bool} → GaveTable old.table now.table a → GaveScript old.script now.script a found → is_too_large a found ≡ large → is_too_large rows lines ≡ large
+    size-of {a} {found} {large} gave given is =
+        subst (λ (ls : List Line). is_too_large rows ls ≡ large) (same-lines still spelled refl gave given) (subst (λ (x : Rows). is_too_large x found ≡ large) (same-table gave) is)
+
+    large-reason : {V : Type 0} {status : Status} {due : List ℕ} → is_too_large rows lines ≡ true → Ends V old now (Some Sweep) status due → IsReason status due CommandRefused too_large_line ⊎ (status ≡ OutOfMemory)
+    large-reason large (table_fault c rose) = absurd (quiet.table rose)
+    large-reason large (table_refused c error is) = absurd (no-error is)
+    large-reason large (script_fault c a gave reads rose) = absurd (still rose)
+    large-reason large (script_refused c a found gave reads is) = absurd (no-refusal still spelled refl gave is)
+    large-reason large (image_refused c a r gave has is) = absurd has
+    large-reason large (mount_fault c a gave has rose) = absurd has
+    large-reason large (too_large a found gave given is) = inl (refl, refl)
+    large-reason large (swept a found counts gave given small is) = absurd (true-false (sym large ∙ size-of gave given small))
+    large-reason large (starved c) = inr refl
+
+    swept-reason : {V : Type 0} {status : Status} {due : List ℕ} → is_too_large rows lines ≡ false → Ends V old now (Some Sweep) status due
+        → ((counts : Swept) × IsSweep rows lines counts × IsReason status due Done (swept_line counts)) ⊎ (status ≡ OutOfMemory)
+    swept-reason small (table_fault c rose) = absurd (quiet.table rose)
+    swept-reason small (table_refused c error is) = absurd (no-error is)
+    swept-reason small (script_fault c a gave reads rose) = absurd (still rose)
+    swept-reason small (script_refused c a found gave reads is) = absurd (no-refusal still spelled refl gave is)
+    swept-reason small (image_refused c a r gave has is) = absurd has
+    swept-reason small (mount_fault c a gave has rose) = absurd has
+    swept-reason small (too_large a found gave given large) = absurd (true-false (sym (size-of gave given large) ∙ small))
+    swept-reason small (swept a found counts gave given fits is) =
+        inl (counts, subst (λ (ls : List Line). IsSweep rows ls counts) (same-lines still spelled refl gave given) (subst (λ (x : Rows). IsSweep x found counts) (same-table gave) is), (refl, refl))
+    swept-reason small (starved c) = inr refl
 
   small-reason : {V : Type 0} {status : Status} {due : List ℕ} → old.size < image_bytes rows → Ends V old now (Some Format) status due → IsReason status due ImageRefused (image_refused_line (too_small (image_bytes rows))) ⊎ (status ≡ OutOfMemory)
   small-reason small (table_fault c rose) = absurd (quiet.table rose)
@@ -327,6 +392,9 @@ module _ (T V : Type 0) (v : V) (old now : Seen) (result : Status) (rows : Rows)
   refuses-images Run r ends quiet reads given sound image = refused-as quiet.0 reads v quiet.1 sound (λ d. run_text rows [] (start rows d) given.0) ends (run-reason quiet.0 reads v quiet.1 sound given.0 given.1 ends.reason) r image
   refuses-images (Only name) r ends quiet reads given sound image =
       refused-as quiet.0 reads v quiet.1 sound (λ d. own_text rows given.0.0 (start rows d) given.1.0) ends (own-reason quiet.0 reads v quiet.1 sound given.1.0 given.1.1 name given.0.0 given.0.1 ends.reason) r image
+  refuses-images (Stress seed count) r ends quiet reads given sound image =
+      refused-as quiet.0 reads v quiet.1 sound (λ d. stressed_line count (load_tally rows seed count d)) ends (load-reason quiet.0 reads v quiet.1 sound seed count ends.reason) r image
+  refuses-images Sweep r ends quiet reads given sound image = absurd given
   refuses-images Check r ends quiet reads given sound image = refused-as quiet.0 reads v quiet.1 sound (λ d. good_line rows) ends (check-reason quiet.0 reads v quiet.1 sound ends.reason) r image
 
   module _ (stored : Durable) (quiet : IsQuietRun old now) (reads : ReadsTable old (Ok rows)) (sound : DeviceFailed old now → ⊥) (image : state_of rows old.view ≡ Ok stored) where
@@ -338,6 +406,18 @@ module _ (T V : Type 0) (v : V) (old now : Seen) (result : Status) (rows : Rows)
 
     pub finds-good : EndsSo T V (Some Check) old now result → EndsOrStarves T old now result Done (good_line rows)
     finds-good ends = done-as quiet.0 reads v quiet.1 sound (λ d. good_line rows) ends (check-reason quiet.0 reads v quiet.1 sound ends.reason) stored image
+
+    pub counts-load : (seed count : ℕ) → EndsSo T V (Some (Stress seed count)) old now result → EndsOrStarves T old now result Done (stressed_line count (load_tally rows seed count stored))
+    counts-load seed count ends = done-as quiet.0 reads v quiet.1 sound (λ d. stressed_line count (load_tally rows seed count d)) ends (load-reason quiet.0 reads v quiet.1 sound seed count ends.reason) stored image
+
+module _ (T V : Type 0) (old now : Seen) (result : Status) (rows : Rows) (lines : List Line) (ends : EndsSo T V (Some Sweep) old now result) (quiet : IsQuietRun old now) (reads : ReadsTable old (Ok rows)) (script : ReadsLines rows old (Ok lines)) where
+  pub refuses-sweeps : is_too_large rows lines ≡ true → EndsOrStarves T old now result CommandRefused too_large_line
+  refuses-sweeps large = ends-or-starves ends quiet.0 (large-reason quiet.0 reads quiet.1 script large ends.reason)
+
+  pub sweeps : is_too_large rows lines ≡ false → TellsSweep T rows lines old now result
+  sweeps small = ⊎_elim
+      (λ told. ⊎_elim (λ found. inl (found.0, found.1, ends-with ends told found.2)) (λ memory. inr (told.0 ∙ memory)) (swept-reason quiet.0 reads quiet.1 script small ends.reason))
+      (λ fault. absurd (quiet.0.tells fault.2.rose)) ends.told
 
 pub refuses-small : (T V : Type 0) (old now : Seen) (result : Status) (rows : Rows) → EndsSo T V (Some Format) old now result → IsQuiet old now → ReadsTable old (Ok rows) → old.size < image_bytes rows
     → EndsOrStarves T old now result ImageRefused (image_refused_line (too_small (image_bytes rows)))

@@ -1,5 +1,5 @@
 -- How a command ends, step by step.
-use Rattle.std.proofs.Common.{◌≡◌, ℕ, ◌<◌, ◌≤◌, ◌⊎◌, inl, inr, ⊎_elim, List, [], ◌++◌, Option, Some, None, refl, sym, ◌∙◌, ap, subst, arith}
+use Rattle.std.proofs.Common.{◌≡◌, ℕ, ◌<◌, ◌≤◌, ◌⊎◌, inl, inr, ⊎_elim, true, false, List, [], ◌++◌, Option, Some, None, refl, sym, ◌∙◌, ap, subst, arith}
 use Rattle.std.specs.Prelude.{length, take, slice_get, Result, Ok, Err, ⊤}
 use Rattle.std.proofs.lemmas.Bool.{cases_lt}
 use Rattle.apex_types.specs.Rows.{Rows}
@@ -13,11 +13,13 @@ use Rattle.script_model.specs.Reading.{partition_at}
 use Rattle.call_script.specs.Errors.{refusal_of}
 use Rattle.apex_model.specs.Image.{too_small}
 use Rattle.apex_model.specs.Run.{fault_line}
-use Rattle.apex_host.specs.Endings.{Seen, seen, image_bytes, IsRunText, LineFailed, Ends, StandsForOne, ReadsFor, OpensImage, IsNamed, IsOwn, IsHeardText, DeviceFailed, usage, table_fault, table_refused, starved, too_small_to_format, format_fault, formatted, unknown_partition, script_fault, script_refused, image_refused, mount_fault, checked, fault_in_line, ran, fault_in_own_line, heard, EndsSo, GaveTable, GaveScript}
+use Rattle.apex_host.specs.Endings.{Seen, seen, image_bytes, IsRunText, LineFailed, Ends, StandsForOne, ReadsFor, OpensImage, DeviceFailed, usage, table_fault, table_refused, starved, too_small_to_format, format_fault, formatted, unknown_partition, script_fault, script_refused, image_refused, mount_fault, checked, fault_in_line, ran, fault_in_own_line, heard, stress_fault, stressed, too_large, swept, IsLoadTally, is_too_large, IsSweep, EndsSo, GaveTable, GaveScript}
 use Rattle.apex_host.specs.Stops.{told_with, StopsTable, StopsScript, StopsMount, Owes}
-use Rattle.apex_host.specs.Told.{TellsPart, IsTold, usage_line, formatted_line, good_line, unknown_partition_line, image_refused_line, mount_fault_line, format_fault_line}
+use Rattle.script_run.specs.declared.tally.Tally.{Tally}
+use Rattle.power_sweep.specs.declared.sweeping.Swept.{Swept}
+use Rattle.apex_host.specs.Told.{TellsPart, IsTold, usage_line, formatted_line, good_line, stressed_line, swept_line, unknown_partition_line, too_large_line, image_refused_line, mount_fault_line, format_fault_line, stress_fault_line}
 use Rattle.apex_host.specs.declared.command.Command.{Command}
-use Rattle.apex_host.specs.declared.command.Command.TheVariants.{Format, Run, Only, Check}
+use Rattle.apex_host.specs.declared.command.Command.TheVariants.{Format, Run, Only, Check, Stress, Sweep}
 use Rattle.apex_host.specs.declared.status.Status.{Status}
 use Rattle.apex_host.specs.declared.status.Status.TheVariants.{Done, Usage, ImageRefused, CommandRefused, DeviceFault, ReplyFault, OutOfMemory}
 use Rattle.apex_host.specs.declared.stops.Stop.{Stop}
@@ -41,6 +43,8 @@ input-later old t s f g m e rows Format none = absurd none
 input-later old t s f g m e rows Run has = has
 input-later old t s f g m e rows (Only name) has = has
 input-later old t s f g m e rows Check has = has
+input-later old t s f g m e rows (Stress seed count) has = has
+input-later old t s f g m e rows Sweep none = absurd none
 
 module _ {V : Type 0} {old : Seen} (t s : Option (List ℕ)) (f g : ℕ) (m e : Outside) where
   -- it leaves the reason as it is
@@ -64,8 +68,12 @@ module _ {V : Type 0} {old : Seen} (t s : Option (List ℕ)) (f g : ℕ) (m e : 
     ends-later (fault_in_line rows lines k line text gave read at is cause) =
         fault_in_line rows lines k line text gave read at (text-later is) (⊎_elim (λ r. inl (write-later m e later old.write_faults r)) (λ r. inr (r.0, read-later m e later old.read_faults r.1)) cause)
     ends-later (ran rows lines text gave read is) = ran rows lines text gave read (text-later is)
-    ends-later (fault_in_own_line name rows p lines k line text gave named read at own is cause) = fault_in_own_line name rows p lines k line text gave named read at own is (λ v. device-later m e later old t s f g (cause v))
+    ends-later (fault_in_own_line name rows p lines k line text gave named read at own is cause) = fault_in_own_line name rows p lines k line text gave named read at own is (device-later m e later old t s f g cause)
     ends-later (heard name rows p lines text gave named read is) = heard name rows p lines text gave named read is
+    ends-later (stress_fault seed count rows gave is cause) = stress_fault seed count rows gave is (device-later m e later old t s f g cause)
+    ends-later (stressed seed count rows tally gave is) = stressed seed count rows tally gave is
+    ends-later (too_large rows lines gave read large) = too_large rows lines gave read large
+    ends-later (swept rows lines counts gave read small is) = swept rows lines counts gave read small is
     ends-later (starved c) = starved c
 
   -- where memory ran out nothing is due
@@ -165,6 +173,22 @@ module _ {T V : Type 0} {t t' s s' : Option (List ℕ)} {f f' g g' : ℕ} (o e :
   -- an image that is good
   pub owes-good : (rows : Rows) → GaveTable t t' rows → (V → StandsForOne rows o.view (λ stored. ⊤)) → e.told ≡ o.told → Owes T V (Some Check) (seen t f s g o) (seen t' f' s' g' e) (told_with Done (good_line rows))
   owes-good rows gave is same = owes-line {end = told_with Done (good_line rows)} same (checked rows gave is)
+
+  -- a load
+  module _ (seed count : ℕ) (rows : Rows) (gave : GaveTable t t' rows) (same : e.told ≡ o.told) where
+    pub owes-load : (tally : Tally) → IsLoadTally V rows seed count (seen t f s g o) tally → Owes T V (Some (Stress seed count)) (seen t f s g o) (seen t' f' s' g' e) (told_with Done (stressed_line count tally))
+    owes-load tally is = owes-line {end = told_with Done (stressed_line count tally)} same (stressed seed count rows tally gave is)
+
+    pub owes-load_fault : (V → StandsForOne rows o.view (λ stored. ⊤)) → Rose o.read_faults e.read_faults ⊎ Rose o.write_faults e.write_faults → Owes T V (Some (Stress seed count)) (seen t f s g o) (seen t' f' s' g' e) (told_with DeviceFault stress_fault_line)
+    owes-load_fault is cause = owes-line {end = told_with DeviceFault stress_fault_line} same (stress_fault seed count rows gave is cause)
+
+  -- a sweep
+  module _ (rows : Rows) (lines : List Line) (gave : GaveTable t t' rows) (read : GaveScript s s' rows lines) (same : e.told ≡ o.told) where
+    pub owes-large : is_too_large rows lines ≡ true → Owes T V (Some Sweep) (seen t f s g o) (seen t' f' s' g' e) (told_with CommandRefused too_large_line)
+    owes-large large = owes-line {end = told_with CommandRefused too_large_line} same (too_large rows lines gave read large)
+
+    pub owes-swept : (counts : Swept) → is_too_large rows lines ≡ false → IsSweep rows lines counts → Owes T V (Some Sweep) (seen t f s g o) (seen t' f' s' g' e) (told_with Done (swept_line counts))
+    owes-swept counts small is = owes-line {end = told_with Done (swept_line counts)} same (swept rows lines counts gave read small is)
 
   -- a run
   module _ (rows : Rows) (lines : List Line) (gave : GaveTable t t' rows) (read : GaveScript s s' rows lines) where

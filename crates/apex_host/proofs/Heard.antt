@@ -1,7 +1,7 @@
 -- The lines of a partition's upstream that are carried out from an opened image: what is due to the
 -- partition, and what the disk is.
-use Rattle.std.proofs.Common.{◌≡◌, ◌≢◌, ℕ, ◌⊎◌, inl, inr, ⊎_elim, Bool, true, false, List, [], ◌∷◌, ◌++◌, length, Option, Some, refl, sym, ◌∙◌, ap, subst}
-use Rattle.std.specs.Prelude.{take, filter, if◌then◌else◌, Result, Ok}
+use Rattle.std.proofs.Common.{◌≡◌, ◌≢◌, ℕ, inl, inr, ⊎_elim, Bool, true, false, List, [], ◌∷◌, ◌++◌, Option, Some, refl, sym, ◌∙◌, ap, subst}
+use Rattle.std.specs.Prelude.{take, filter, if◌then◌else◌, Ok}
 use Rattle.std.specs.List.{AllByRecursion}
 use Rattle.std.specs.Option.{ForSome}
 use Rattle.std.proofs.lemmas.List.{append-nil}
@@ -28,10 +28,10 @@ use Rattle.module_session.proofs.Ready.{session_in_step}
 use Rattle.script_run.specs.Chosen.{is_hearer, told_to, IsOwnText, IsOwnPair, LeavesOwnPairs, Served, FailsAt, HaltsHeard, StopsHearing, IsDueHeard, own_due, halt_due}
 use Rattle.script_run.proofs.OneLine.{told-front}
 use Rattle.script_run.proofs.OwnRuns.{own-suffice, own-suffice-before, own-stand}
-use Rattle.apex_host.specs.Disk.{LeavesDisk, heard as was_heard, hearing_failed, BeginsOnly, HoldsCutOf, IsHeardPair, LeavesFrom}
+use Rattle.apex_host.specs.Disk.{LeavesDisk, heard as was_heard, hearing_failed, BeginsOnly, IsHeardPair, LeavesFrom}
 use Rattle.apex_host.specs.Endings.{Ends, IsTableOf, IsNamed, IsHeardText, GaveTable, GaveScript, ReadsScript, seen, EndsSo, heard, fault_in_own_line}
 use Rattle.apex_host.specs.Opening.{StartsFrom}
-use Rattle.apex_host.specs.Told.{own_text, TellsPart}
+use Rattle.apex_host.specs.Told.{TellsPart}
 use Rattle.apex_host.specs.declared.command.Command.TheVariants.{Only}
 use Rattle.apex_host.specs.declared.status.Status.TheVariants.{Done, DeviceFault, ReplyFault}
 use Rattle.apex_host.proofs.Carried.{ok-ok, part-since, state-or_empty}
@@ -123,10 +123,7 @@ module _ {V : Type 0} (law : RepliesDependOnUpstream) (rows : Rows) (name : List
             valid = begun.valid;
             holds = fails.text v w begun.stands ∙ ap text_of (own-suffice-before law rows [] begun.stored p.0 lines fails.k line opened.accepted begun.valid opened.are stands);
           })
-          (λ v.
-          let begun = opened.starts v in
-          ⊎_elim (λ r. inr (rose-after o.write_faults m.write_faults e.write_faults opened.reads.later.write_faults r)) (λ r. inl (rose-after o.read_faults m.read_faults e.read_faults opened.reads.later.read_faults r))
-          (fails.cause v (start rows begun.stored) begun.stands begun.valid))
+          (⊎_elim (λ r. inr (rose-after o.write_faults m.write_faults e.write_faults opened.reads.later.write_faults r)) (λ r. inl (rose-after o.read_faults m.read_faults e.read_faults opened.reads.later.read_faults r)) fails.cause)
 
       module _ {T : Type 0} (quiet : f' ≡ f) (still : g' ≡ g) where
         pub ends-heard : {session : Session} → Served T V rows own tellers first m session e → EndsSo T V (Some (Only name)) (seen t f s g o) (seen t' f' s' g' e) Done

@@ -6,7 +6,11 @@ pub mod Disks
 pub mod EndLaws
 pub mod Endings
 pub mod EntryLaws
+pub mod Failures
+pub mod Fronts
 pub mod Heard
+pub mod Lines
+pub mod Loads
 pub mod Opened
 pub mod SourceReads
 pub mod StopLaws

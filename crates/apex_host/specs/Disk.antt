@@ -1,5 +1,5 @@
 -- What a command does to the disk.
-use Rattle.std.specs.Prelude.{◌≡◌, ◌≢◌, ◌⊎◌, ◌++◌, ◌≤◌, ◌==◌, ℕ, List, [], Option, Some, Ok}
+use Rattle.std.specs.Prelude.{◌≡◌, ◌≢◌, ◌⊎◌, ◌++◌, ◌≤◌, ◌==◌, ℕ, false, List, [], Option, Some, Ok}
 use Rattle.std.specs.Option.{ForSome}
 use Rattle.apex_types.specs.Rows.{Rows}
 use Rattle.apex_types.specs.declared.calls.Line.{Line}
@@ -17,10 +17,11 @@ use Rattle.recover_scan.specs.Format.{OldOrFormatted, KeepsRest, IsFormatted, Is
 use Rattle.script_model.specs.Script.{script_of}
 use Rattle.image_layout.specs.Ready.{Stores}
 use Rattle.script_run.specs.Pairs.{IsPair}
+use Rattle.stress_script.specs.Generator.{generated}
 use Rattle.apex_host.specs.Endings.{IsTableOf, IsNamed}
 use Rattle.apex_host.specs.Told.{run_text}
 use Rattle.apex_host.specs.declared.command.Command.{Command}
-use Rattle.apex_host.specs.declared.command.Command.TheVariants.{Format, Run, Only, Check}
+use Rattle.apex_host.specs.declared.command.Command.TheVariants.{Format, Run, Only, Check, Stress, Sweep}
 use Rattle.apex_host.specs.declared.status.Status.{Status}
 use Rattle.apex_host.specs.declared.status.Status.TheVariants.{Done, DeviceFault, ReplyFault}
 
@@ -168,6 +169,34 @@ pub record CompletesOnly (tells_text tells_view : Type 0) (name : List ℕ)
       → HoldsCutOf begins.rows (world_after_all begins.rows [] (start begins.rows stored)
       (own_lines begins.rows begins.p begins.lines)) new
 
+-- ---- a load of lines drawn from a seed
+
+-- A cut may leave this image of a run of these lines of which no reply is told, and in which no read
+-- failed.
+abbrev pub IsUntoldImage : Rows → World → List Line → List ℕ → Type 0
+IsUntoldImage rows w lines image = Stores rows (IsLeft rows [] w lines (λ q. false) 0) image
+
+-- so it is at every moment of a load from the state that the image stood for
+abbrev pub LeavesLoad : Type 0 → Rows → List Line → Outside → Outside → Type 0
+LeavesLoad tells_view rows lines old new = tells_view → (stored : Durable)
+    → state_of rows old.view ≡ Ok stored
+    → LeavesPairs (λ image told. IsUntoldImage rows (start rows stored) lines image) old new
+
+-- A load for the table that the bytes left spell has begun.
+pub record BeginsLoad (tells_view : Type 0) (seed count : ℕ) (table : Option (List ℕ))
+    (old new : Outside) : Type 0 where
+  pub rows : Rows
+  pub spelled : IsTableOf table rows
+  pub images : LeavesLoad tells_view rows (generated rows seed count) old new
+
+-- It has come to its end.
+pub record CompletesLoad (tells_view : Type 0) (seed count : ℕ) (table : Option (List ℕ))
+    (old new : Outside) : Type 0 where
+  pub begins : BeginsLoad tells_view seed count table old new
+  pub holds : tells_view → (stored : Durable) → state_of begins.rows old.view ≡ Ok stored
+      → HoldsCutOf begins.rows (world_after_all begins.rows [] (start begins.rows stored)
+      (generated begins.rows seed count)) new
+
 -- ---- any command
 
 -- What a command does to the disk, by how it ends.
@@ -197,6 +226,16 @@ pub data LeavesDisk (tells_text tells_view : Type 0) (table script : Option (Lis
   -- A check leaves the disk untouched.
   checked : IsUntouched tells_view old new
       → LeavesDisk tells_text tells_view table script old new (Some Check) Done
+  -- A load at its end, or after a fault of the device in a line, or of telling.
+  stressed : (seed count : ℕ) → CompletesLoad tells_view seed count table old new
+      → LeavesDisk tells_text tells_view table script old new (Some (Stress seed count)) Done
+  stress_failed : (seed count : ℕ) (status : Status)
+      → (status ≡ DeviceFault) ⊎ (status ≡ ReplyFault)
+      → BeginsLoad tells_view seed count table old new
+      → LeavesDisk tells_text tells_view table script old new (Some (Stress seed count)) status
+  -- A sweep works in memory, and leaves the disk untouched.
+  swept : IsUntouched tells_view old new
+      → LeavesDisk tells_text tells_view table script old new (Some Sweep) Done
   -- All else leaves the disk untouched.
   untouched : (command : Option Command) (status : Status) → status ≢ Done
       → IsUntouched tells_view old new

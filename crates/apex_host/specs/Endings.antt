@@ -1,5 +1,5 @@
 -- How each command ends.
-use Rattle.std.specs.Prelude.{◌≡◌, ◌≢◌, ◌⊎◌, ◌++◌, ◌*◌, ◌<◌, ◌≤◌, ℕ, List, [], length, take, slice_get, Option, Some, None, Ok, Err, IsTrue, ⊤}
+use Rattle.std.specs.Prelude.{◌≡◌, ◌≢◌, ◌⊎◌, ◌++◌, ◌+◌, ◌*◌, ◌<◌, ◌≤◌, ℕ, Bool, true, false, ◌||◌, nat_lt, List, [], length, take, slice_get, Option, Some, None, Ok, Err, IsTrue, ⊤}
 use Rattle.std.specs.Option.{ForSome}
 use Rattle.apex_types.specs.Rows.{Rows}
 use Rattle.apex_types.specs.declared.calls.Line.{Line}
@@ -19,9 +19,14 @@ use Rattle.script_model.specs.Script.{Refusal, script_of}
 use Rattle.script_model.specs.Refusals.{refusal_line}
 use Rattle.module_session.specs.Sessions.{IsOfLogbooks}
 use Rattle.script_run.specs.Reached.{RoseBy}
-use Rattle.apex_host.specs.Told.{IsCutShort, run_text, own_text, formatted_line, good_line, usage_line, table_refused_line, table_fault_line, unknown_partition_line, script_fault_line, image_refused_line, mount_fault_line, format_fault_line}
+use Rattle.script_run.specs.declared.tally.Tally.{Tally}
+use Rattle.script_run.specs.Names.{name_changes}
+use Rattle.power_sweep.specs.Counts.{AreMounted}
+use Rattle.power_sweep.specs.Whole.{first_world, last_files}
+use Rattle.power_sweep.specs.declared.sweeping.Swept.{Swept}
+use Rattle.apex_host.specs.Told.{IsCutShort, run_text, own_text, load_tally, formatted_line, good_line, stressed_line, swept_line, usage_line, table_refused_line, table_fault_line, unknown_partition_line, script_fault_line, image_refused_line, mount_fault_line, format_fault_line, stress_fault_line, too_large_line}
 use Rattle.apex_host.specs.declared.command.Command.{Command}
-use Rattle.apex_host.specs.declared.command.Command.TheVariants.{Format, Run, Only, Check}
+use Rattle.apex_host.specs.declared.command.Command.TheVariants.{Format, Run, Only, Check, Stress, Sweep}
 use Rattle.apex_host.specs.declared.status.Status.{Status}
 use Rattle.apex_host.specs.declared.status.Status.TheVariants.{Done, Usage, TableRefused, ScriptRefused, ImageRefused, CommandRefused, SourceFault, DeviceFault, ReplyFault, OutOfMemory}
 
@@ -103,17 +108,21 @@ ReadsFor rows Format = ⊥
 ReadsFor rows Run = ⊤
 ReadsFor rows (Only name) = (p : ℕ) × IsNamed rows name p
 ReadsFor rows Check = ⊥
+ReadsFor rows (Stress seed count) = ⊥
+ReadsFor rows Sweep = ⊤
 
 -- the command was given a script that it reads
 abbrev pub HasLines : Seen → Seen → Rows → Command → Type 0
 HasLines old now rows c = ReadsFor rows c × ((lines : List Line) × HasScript old now rows lines)
 
--- a command opens the image, after all that it is given
+-- a command opens the image, after all that it is given; a sweep has images of its own
 abbrev pub OpensImage : Seen → Seen → Rows → Command → Type 0
 OpensImage old now rows Format = ⊥
 OpensImage old now rows Run = HasLines old now rows Run
 OpensImage old now rows (Only name) = HasLines old now rows (Only name)
 OpensImage old now rows Check = ⊤
+OpensImage old now rows (Stress seed count) = ⊤
+OpensImage old now rows Sweep = ⊥
 
 -- the bytes of a table's image
 abbrev pub image_bytes : Rows → ℕ
@@ -163,6 +172,28 @@ IsOwn rows p line = IsTrue (concerns (upstream_marks rows p) line.deed)
 abbrev pub LineFailed : Line → Seen → Seen → Type 0
 LineFailed line old now = Rose old.write_faults now.write_faults
     ⊎ (IsOfLogbooks line.deed × Rose old.read_faults now.read_faults)
+
+-- ---- a load of lines, and a sweep
+
+-- this is the tally of the replies to a load, from the state that the image stands for
+abbrev pub IsLoadTally : Type 0 → Rows → ℕ → ℕ → Seen → Tally → Type 0
+IsLoadTally tells_view rows seed count old tally = tells_view → StandsForOne rows old.view
+    (λ stored. tally ≡ load_tally rows seed count stored)
+
+-- the table's image has more than 1,024 blocks, or the script more than 64 lines
+abbrev pub is_too_large : Rows → List Line → Bool
+is_too_large rows lines = nat_lt 1024 (layout_blocks rows) || nat_lt 64 (length lines)
+
+-- For each number of calls of the device, up to all of them, cuts left three images, and all of them
+-- mounted. Each stands for a state that a cut leaves in a run of these lines from the empty image, and
+-- the files are those of these states. The calls are four at least for each change of names, and the
+-- files three times those of the last world at least.
+pub record IsSweep (rows : Rows) (lines : List Line) (counts : Swept) : Type 0 where
+  pub images : counts.images ≡ 3 * (counts.calls + 1)
+  pub mounted : counts.mounted ≡ counts.images
+  pub left : AreMounted rows lines counts.images counts
+  pub names : 4 * name_changes rows (first_world rows) lines ≤ counts.calls
+  pub files : 3 * last_files rows lines ≤ counts.files
 
 -- ---- why a command ends
 
@@ -225,13 +256,29 @@ pub data Ends (tells_view : Type 0) (old now : Seen) : Option Command → Status
       (text : List ℕ) → HasTable old now rows → IsNamed rows name p → HasScript old now rows lines
       → slice_get lines k ≡ Some line → IsOwn rows p line
       → IsHeardText tells_view rows p (take k lines) old text
-      → (tells_view → DeviceFailed old now)
+      → DeviceFailed old now
       → Ends tells_view old now (Some (Only name)) DeviceFault (text ++ fault_line line.number)
   -- The lines of a partition's upstream were carried out, and its replies are those to all lines.
   heard : (name : List ℕ) (rows : Rows) (p : ℕ) (lines : List Line) (text : List ℕ)
       → HasTable old now rows → IsNamed rows name p → HasScript old now rows lines
       → IsHeardText tells_view rows p lines old text
       → Ends tells_view old now (Some (Only name)) Done text
+  -- The device failed in a line of a load. Its image was opened before.
+  stress_fault : (seed count : ℕ) (rows : Rows) → HasTable old now rows
+      → (tells_view → StandsForOne rows old.view (λ stored. ⊤)) → DeviceFailed old now
+      → Ends tells_view old now (Some (Stress seed count)) DeviceFault stress_fault_line
+  -- A load was carried out, and its replies counted.
+  stressed : (seed count : ℕ) (rows : Rows) (tally : Tally) → HasTable old now rows
+      → IsLoadTally tells_view rows seed count old tally
+      → Ends tells_view old now (Some (Stress seed count)) Done (stressed_line count tally)
+  -- The table's image or the script is too large for a sweep.
+  too_large : (rows : Rows) (lines : List Line) → HasTable old now rows → HasScript old now rows lines
+      → is_too_large rows lines ≡ true
+      → Ends tells_view old now (Some Sweep) CommandRefused too_large_line
+  -- The power was cut at every call of the script's run.
+  swept : (rows : Rows) (lines : List Line) (counts : Swept) → HasTable old now rows
+      → HasScript old now rows lines → is_too_large rows lines ≡ false → IsSweep rows lines counts
+      → Ends tells_view old now (Some Sweep) Done (swept_line counts)
   -- Memory ran out, before there was anything to tell.
   starved : (c : Command) → Ends tells_view old now (Some c) OutOfMemory []
 

@@ -4,12 +4,17 @@ use Rattle.apex_types.specs.Rows.{Rows}
 use Rattle.apex_types.specs.declared.calls.Line.{Line}
 use Rattle.apex_model.specs.Isolation.{replies_of}
 use Rattle.apex_model.specs.Image.{Refusal, too_small, not_formatted, other_table, bad_tree, bad_logbook}
+use Rattle.apex_model.specs.Durable.{Durable, start}
 use Rattle.apex_model.specs.Run.{replies_to, text_of, line_of}
 use Rattle.apex_model.specs.World.{World}
 use Rattle.rig_core.specs.Causes.{Rose}
 use Rattle.rig_core.specs.Outside.{Outside, IsToldPart}
 use Rattle.table_model.specs.Errors.{error_number, error_name}
 use Rattle.table_model.specs.declared.errors.TableError.{TableError}
+use Rattle.stress_script.specs.Generator.{generated}
+use Rattle.script_run.specs.Tally.{tally_of}
+use Rattle.script_run.specs.declared.tally.Tally.{Tally}
+use Rattle.power_sweep.specs.declared.sweeping.Swept.{Swept}
 use Rattle.apex_host.specs.declared.status.Status.{Status}
 use Rattle.apex_host.specs.declared.status.Status.TheVariants.{ReplyFault}
 
@@ -29,6 +34,32 @@ formatted_line blocks = line_of (codes "formatted" ∷ decimal blocks ∷ codes 
 abbrev pub good_line : Rows → List ℕ
 good_line table = line_of (codes "image" ∷ codes "good" ∷ codes "trees" ∷ decimal (length table.trees)
     ∷ codes "logbooks" ∷ decimal (length table.logbooks) ∷ [])
+
+-- the tally of the replies to so many lines that are drawn from a seed, from a stored state on, where
+-- no read failed
+abbrev pub load_tally : Rows → ℕ → ℕ → Durable → Tally
+load_tally table seed count stored =
+    tally_of (replies_to table [] (start table stored) (generated table seed count))
+
+-- the line that tells how many lines a load had, how many replies, how many of each code, and how many
+-- bytes of data they held
+abbrev pub stressed_line : ℕ → Tally → List ℕ
+stressed_line count tally = line_of (codes "stress" ∷ codes "lines" ∷ decimal count
+    ∷ codes "replies" ∷ decimal tally.replies
+    ∷ codes "NO_ERROR" ∷ decimal tally.no_error
+    ∷ codes "NO_ACTION" ∷ decimal tally.no_action
+    ∷ codes "NOT_AVAILABLE" ∷ decimal tally.not_available
+    ∷ codes "INVALID_PARAM" ∷ decimal tally.invalid_param
+    ∷ codes "INVALID_CONFIG" ∷ decimal tally.invalid_config
+    ∷ codes "INVALID_MODE" ∷ decimal tally.invalid_mode
+    ∷ codes "bytes" ∷ decimal tally.data_bytes ∷ [])
+
+-- the line that tells what a sweep counted: the calls of the device, the images that cuts left, those
+-- that mounted, and the files in them
+abbrev pub swept_line : Swept → List ℕ
+swept_line counts = line_of (codes "sweep" ∷ codes "calls" ∷ decimal counts.calls
+    ∷ codes "images" ∷ decimal counts.images ∷ codes "mounted" ∷ decimal counts.mounted
+    ∷ codes "files" ∷ decimal counts.files ∷ [])
 
 -- ---- the lines that tell why a command was not carried out
 
@@ -53,6 +84,10 @@ script_fault_line = codes "source fault script" ++ 10 ∷ []
 abbrev pub unknown_partition_line : List ℕ
 unknown_partition_line = codes "command refused UnknownPartition" ++ 10 ∷ []
 
+-- the table's image or the script is too large for a sweep
+abbrev pub too_large_line : List ℕ
+too_large_line = codes "command refused SweepTooLarge" ++ 10 ∷ []
+
 -- the word of a value, if there is one
 abbrev pub value_words : Option ℕ → List (List ℕ)
 value_words None = []
@@ -74,6 +109,10 @@ image_refused_line refusal = line_of (codes "image" ∷ codes "refused" ∷ imag
 -- a read of the device failed when the image was opened
 abbrev pub mount_fault_line : List ℕ
 mount_fault_line = codes "device fault mount" ++ 10 ∷ []
+
+-- the device failed in a line of a load
+abbrev pub stress_fault_line : List ℕ
+stress_fault_line = codes "device fault stress" ++ 10 ∷ []
 
 -- a call of the device failed when it was formatted
 abbrev pub format_fault_line : List ℕ

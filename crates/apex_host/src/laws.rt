@@ -1,6 +1,6 @@
 //! What follows from how a command ends. The functions do nothing: each contract is a law of what
 //! `host` ensures, of any two moments.
-ghost use Rattle.std.specs.Prelude.{◌≡◌, ◌⊎◌, ◌<◌, ◌≤◌, ℕ, List, [], Option, Some, None, Ok, Err};
+ghost use Rattle.std.specs.Prelude.{◌≡◌, ◌⊎◌, ◌<◌, ◌≤◌, ℕ, true, false, List, [], Option, Some, None, Ok, Err};
 ghost use Rattle.apex_types.specs.Rows.{Rows};
 ghost use Rattle.apex_types.specs.declared.calls.Line.{Line};
 ghost use Rattle.apex_model.specs.Durable.{Durable, start};
@@ -13,14 +13,14 @@ ghost use Rattle.script_model.specs.Reading.{partition_at};
 ghost use Rattle.script_model.specs.Script.{Refusal, script_of};
 ghost use Rattle.script_model.specs.Refusals.{refusal_line};
 ghost use Rattle.apex_host.specs.Disk.{LeavesDisk, FormatsDisk, IsUntouched, RunsSafely};
-ghost use Rattle.apex_host.specs.Endings.{Seen, ReadsFor, IsNamed, DeviceFailed, EndsSo, image_bytes};
+ghost use Rattle.apex_host.specs.Endings.{Seen, ReadsFor, IsNamed, DeviceFailed, EndsSo, image_bytes, is_too_large};
 ghost use Rattle.apex_host.specs.Entries.{LeavesEntries};
-ghost use Rattle.apex_host.specs.Laws.{Means, IsToldApart, ReadsTable, ReadsLines, IsGiven, IsQuiet, IsQuietRun, IsQuietFormat, EndsWith, EndsOrStarves};
-ghost use Rattle.apex_host.specs.Told.{run_text, own_text, formatted_line, good_line, usage_line, table_refused_line, unknown_partition_line, image_refused_line};
+ghost use Rattle.apex_host.specs.Laws.{Means, HasTold, TellsApart, TellsAllApart, ReadsTable, ReadsLines, IsGiven, IsQuiet, IsQuietRun, IsQuietFormat, EndsWith, EndsOrStarves, TellsSweep};
+ghost use Rattle.apex_host.specs.Told.{run_text, own_text, load_tally, formatted_line, good_line, stressed_line, usage_line, table_refused_line, unknown_partition_line, too_large_line, image_refused_line};
 
 use crate::command::Command;
 use crate::status::Status;
-use model_laws::{replies_depend_on_upstream, step_keeps_valid};
+use model_laws::{replies_depend_on_upstream, reply_lines_tell, step_keeps_valid};
 use rig_core::Rig;
 
 /// A status comes only of its cause.
@@ -109,17 +109,56 @@ pub fn hears_own<R: Rig>()
         Status.Done (own_text rows p (start rows stored) lines) }
 {}
 
-/// Where a run comes to its end, each partition is told what it is told with the lines and the stored
-/// state of its upstream alone, whichever reads fail.
+/// A load is carried out from the state of the image, and its replies counted, unless memory runs out or
+/// a call of the outside fails.
+pub fn counts_load<R: Rig>()
+    ensures { R.tells_view → (seed count : ℕ) (before after : Seen) (status : Status) (rows : Rows)
+        (stored : Durable)
+        → EndsSo R.tells_text R.tells_view (Some (Command.Stress seed count)) before after status
+        → IsQuietRun before after → ReadsTable before (Ok rows)
+        → ¬ (DeviceFailed before after) → state_of rows before.view ≡ Ok stored
+        → EndsOrStarves R.tells_text before after status
+        Status.Done (stressed_line count (load_tally rows seed count stored)) }
+{}
+
+/// A sweep of an image or a script that is too large is refused.
+pub fn refuses_sweeps<R: Rig>()
+    ensures { (before after : Seen) (status : Status) (rows : Rows) (lines : List Line)
+        → EndsSo R.tells_text R.tells_view (Some Command.Sweep) before after status
+        → IsQuietRun before after → ReadsTable before (Ok rows) → ReadsLines rows before (Ok lines)
+        → is_too_large rows lines ≡ true
+        → EndsOrStarves R.tells_text before after status Status.CommandRefused too_large_line }
+{}
+
+/// Any other is made, and each image that a cut left mounts, unless memory runs out or telling fails.
+pub fn sweeps<R: Rig>()
+    ensures { (before after : Seen) (status : Status) (rows : Rows) (lines : List Line)
+        → EndsSo R.tells_text R.tells_view (Some Command.Sweep) before after status
+        → IsQuietRun before after → ReadsTable before (Ok rows) → ReadsLines rows before (Ok lines)
+        → is_too_large rows lines ≡ false
+        → TellsSweep R.tells_text rows lines before after status }
+{}
+
+/// Whatever ends a run, the replies to a partition that were told whole are the first of those that
+/// it gets with the lines and the stored state of its upstream alone, whichever reads fail. Where the
+/// run comes to its end, they are all of them.
 pub fn keeps_partitions_apart<R: Rig>()
-    ensures { R.tells_text → R.tells_view → (before after : Seen) (rows : Rows)
+    ensures so_far { R.tells_text → R.tells_view → (before after : Seen) (status : Status)
+        (rows : Rows) (lines : List Line) (stored : Durable)
+        → EndsSo R.tells_text R.tells_view (Some Command.Run) before after status
+        → ReadsTable before (Ok rows) → ReadsLines rows before (Ok lines)
+        → state_of rows before.view ≡ Ok stored
+        → HasTold before.told after.told (TellsApart rows lines stored) }
+    ensures done { R.tells_text → R.tells_view → (before after : Seen) (rows : Rows)
         (lines : List Line) (stored : Durable)
         → EndsSo R.tells_text R.tells_view (Some Command.Run) before after Status.Done
         → ReadsTable before (Ok rows) → ReadsLines rows before (Ok lines)
         → state_of rows before.view ≡ Ok stored
-        → IsToldApart rows lines stored before.told after.told }
+        → HasTold before.told after.told (TellsAllApart rows lines stored) }
 {
     replies_depend_on_upstream();
+    reply_lines_tell();
+    step_keeps_valid();
 }
 
 /// A device that is too small for the image of an accepted table is refused.

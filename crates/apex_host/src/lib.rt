@@ -12,14 +12,17 @@ mod reading;
 mod running;
 mod status;
 mod stops;
+mod stressing;
+mod sweeping;
 mod telling;
 mod top;
 
 pub use command::Command;
 pub use laws::{
-    carries_out, cuts_of_runs, finds_good, formats, formats_at_every_moment, hears_own,
-    keeps_logged_entries, keeps_partitions_apart, refuses_images, refuses_partitions,
-    refuses_scripts, refuses_small, refuses_tables, statuses_mean, tells_usage,
+    carries_out, counts_load, cuts_of_runs, finds_good, formats, formats_at_every_moment,
+    hears_own, keeps_logged_entries, keeps_partitions_apart, refuses_images, refuses_partitions,
+    refuses_scripts, refuses_small, refuses_sweeps, refuses_tables, statuses_mean, sweeps,
+    tells_usage,
 };
 pub use status::Status;
 pub use top::host;

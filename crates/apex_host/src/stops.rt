@@ -6,7 +6,7 @@ ghost use Rattle.apex_model.specs.Run.{spaced, line_of};
 ghost use Rattle.script_model.specs.Refusals.{refusal_line};
 ghost use Rattle.call_script.specs.Errors.{refusal_of};
 ghost use Rattle.apex_host.specs.Stops.{told_with, refusal_of_image};
-ghost use Rattle.apex_host.specs.Told.{value_words, table_refused_line, table_fault_line, unknown_partition_line, script_fault_line, image_refused_line, mount_fault_line, format_fault_line};
+ghost use Rattle.apex_host.specs.Told.{value_words, table_refused_line, table_fault_line, unknown_partition_line, too_large_line, script_fault_line, image_refused_line, mount_fault_line, format_fault_line, stress_fault_line};
 
 use crate::status::Status;
 use call_script::{ReplyText, ScriptError, refusal_line as script_refusal_line};
@@ -172,6 +172,13 @@ impl Stop {
         )
     }
 
+    /// The table's image or the script is too large for a sweep.
+    pub fn too_large() -> Stop
+        ensures { result ≡ told_with Status.CommandRefused too_large_line }
+    {
+        Stop::told(Status::CommandRefused, b"command refused SweepTooLarge\n")
+    }
+
     /// A read of the script's source failed.
     pub fn script_fault() -> Stop
         ensures { result ≡ told_with Status.SourceFault script_fault_line }
@@ -184,5 +191,12 @@ impl Stop {
         ensures { result ≡ told_with Status.DeviceFault format_fault_line }
     {
         Stop::told(Status::DeviceFault, b"device fault format\n")
+    }
+
+    /// The device failed in a line of a load.
+    pub fn stress_fault() -> Stop
+        ensures { result ≡ told_with Status.DeviceFault stress_fault_line }
+    {
+        Stop::told(Status::DeviceFault, b"device fault stress\n")
     }
 }

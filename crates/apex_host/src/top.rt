@@ -12,6 +12,8 @@ use crate::formatting::format_device;
 use crate::hearing::only;
 use crate::running::run;
 use crate::status::Status;
+use crate::stressing::stress;
+use crate::sweeping::sweep_script;
 use crate::telling::told;
 use apex_types::Words;
 use rig_core::{Rig, Source};
@@ -77,5 +79,7 @@ pub fn host<T: Source, S: Source, R: Rig>(
         Some(Command::Run) => run(alloc, table, script, rig),
         Some(Command::Only(name)) => only(alloc, &name, table, script, rig),
         Some(Command::Check) => check(alloc, table, rig),
+        Some(Command::Stress { seed, count }) => stress(alloc, seed, count, table, rig),
+        Some(Command::Sweep) => sweep_script(alloc, table, script, rig),
     }
 }

@@ -1,5 +1,4 @@
-use Rattle.std.proofs.Common.{Some, refl, subst, ◌∙◌, ⊎_elim}
-use Rattle.recover_scan.proofs.Changes.{later_then}
+use Rattle.std.proofs.Common.{Some}
 use Rattle.apex_host.specs.declared.command.Command.TheVariants.{Check}
 use Rattle.apex_host.proofs.Disks.{tells-then, leaves-untouched, refusal-leaves, check-leaves}
 use Rattle.apex_host.proofs.Endings.{ends-told}

@@ -5,7 +5,7 @@ use Rattle.apex_host.specs.declared.status.Status.TheVariants.{Done}
 use Rattle.apex_host.specs.declared.command.Command.TheVariants.{Check}
 use Rattle.apex_host.proofs.Endings.{no-table, no-image, owes-good}
 use Rattle.apex_host.proofs.Opened.{good}
-use Rattle.apex_host.proofs.StopLaws.{no-table-undone, no-image-undone}
+use Rattle.apex_host.proofs.StopLaws.{no-image-undone}
 use Rattle.apex_host.proofs.checking.checked_image.Goals as goal
 
 pub returns-in-Err-clause-stopped : goal.returns-in-Err-clause-stopped

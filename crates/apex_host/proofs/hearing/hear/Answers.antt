@@ -1,11 +1,10 @@
-use Rattle.std.proofs.Common.{◌≡◌, ◌∙◌, Some, List, ap, refl, sym, subst, inr}
+use Rattle.std.proofs.Common.{◌∙◌, Some, List, ap, sym, inr}
 use Rattle.std.specs.Prelude.{Err, Result}
 use Rattle.std.specs.List.{AllByRecursion}
 use Rattle.apex_types.specs.Rows.{Rows}
 use Rattle.apex_types.specs.declared.calls.Line.{Line}
 use Rattle.apex_model.specs.Lines.{IsLineOf}
 use Rattle.script_model.specs.Reading.{partition_at}
-use Rattle.recover_scan.proofs.Changes.{later_then}
 use Rattle.script_run.specs.Chosen.{is_hearer, Served, HaltsHeard, StopsHearing, LeavesOwnPairs}
 use Rattle.script_run.specs.declared.lines.LineStop.{LineStop}
 use Rattle.script_run.proofs.OwnRuns.{own-of-table}
