@@ -9,6 +9,8 @@ mod file_calls;
 mod flights;
 mod formats;
 mod images;
+mod isolation;
+mod loads;
 mod logbooks;
 mod modes;
 mod ports;
@@ -82,7 +84,7 @@ pub fn formatted(alloc: Global, table: &[u8]) -> Result<ByteList, OutOfMemory> {
     let mut rig = rig_of(alloc, &zeros, FailList::new(alloc))?;
     match format(alloc, &mut rig, &table) {
         Ok(()) => list_of(alloc, rig.view()),
-        Err(_) => Ok(ByteList::new(alloc)),
+        Err(_) => Err(OutOfMemory),
     }
 }
 

@@ -22,7 +22,7 @@ fn checks(alloc: Global, image: &[u8], status: Status, told: &[u8]) -> Result<bo
 
 /// Whether `only` for this partition, over the formatted image of its table, ends and tells so, where this read of the
 /// script's source fails.
-fn tells_only(
+pub fn tells_only(
     alloc: Global,
     table: &[u8],
     name: &[u8],

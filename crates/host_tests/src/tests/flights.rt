@@ -90,8 +90,8 @@ fn put_told(told: &mut ByteList, byte: u8, tick: u16) -> Result<(), OutOfMemory>
     put_reply(told, tick + 5, b"\n")
 }
 
-/// Whether a flight of 48 turns is told line by line.
-fn flies(alloc: Global) -> Result<bool, OutOfMemory> {
+/// The script of a flight of 48 turns, and what is told of it.
+pub fn flight(alloc: Global) -> Result<(ByteList, ByteList), OutOfMemory> {
     let mut script = ByteList::new(alloc);
     let mut told = ByteList::new(alloc);
     script.extend(TAKE_OFF)?;
@@ -100,11 +100,13 @@ fn flies(alloc: Global) -> Result<bool, OutOfMemory> {
         put_turn(&mut script, turn + 1)?;
         put_told(&mut told, turn + 1, 13 + 6 * u16::from(turn))?;
     }
-    tells(alloc, FOUR_PARTITIONS, script.bytes(), told.bytes())
+    Ok((script, told))
 }
 
 #[test]
 fn a_flight_of_300_lines_is_told(rt: HostRuntime) -> Result<(), Fail> {
-    assert!(rt; flies(rt.alloc())?);
+    let alloc = rt.alloc();
+    let (script, told) = flight(alloc)?;
+    assert!(rt; tells(alloc, FOUR_PARTITIONS, script.bytes(), told.bytes())?);
     Ok(())
 }
