@@ -6,7 +6,7 @@
 #
 #   sh bench/file_calls.sh [PROGRAM]
 #
-# PROGRAM is the built program; without it, the one that `sh demo.sh` builds. python3 makes the inputs and takes the
+# PROGRAM is the built program; without it, the one that `sh demo.sh proved` builds. python3 makes the inputs and takes the
 # times: each is the least of several runs, from the start of the process to its end, with its output in a file. The
 # words are short, so that 20,000 lines stay below 1,048,576 bytes.
 set -u
@@ -18,7 +18,7 @@ case $program in
     *) program=$PWD/$program ;;
 esac
 if ! [ -x "$program" ]; then
-    echo "bench: there is no program $program: build it by 'sh demo.sh' first" >&2
+    echo "bench: there is no program $program: build it by 'sh demo.sh proved' first" >&2
     exit 1
 fi
 

@@ -6,7 +6,7 @@
 #
 #   sh bench/format.sh [PROGRAM]
 #
-# PROGRAM is the built program; without it, the one that `sh demo.sh` builds. python3 takes the times: each is the least of
+# PROGRAM is the built program; without it, the one that `sh demo.sh proved` builds. python3 takes the times: each is the least of
 # several runs. A format's is from the start of the process to its end, less the time of a process that only tells the
 # usage line.
 set -u
@@ -18,7 +18,7 @@ case $program in
     *) program=$PWD/$program ;;
 esac
 if ! [ -x "$program" ]; then
-    echo "bench: there is no program $program: build it by 'sh demo.sh' first" >&2
+    echo "bench: there is no program $program: build it by 'sh demo.sh proved' first" >&2
     exit 1
 fi
 
