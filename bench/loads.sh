@@ -60,20 +60,23 @@ def least(action, runs=RUNS):
 
 
 def table(trees, quota, files, dirty):
-    volumes = ", ".join(f'{{ name = "V{k}", blocks = {quota} }}' for k in range(trees))
+    """A table of so many trees, at most eight of each owner, each in a volume of its own."""
+    owners, volumes = -(-trees // 8), min(trees, 8)
+    partitions = ", ".join(f'{{ name = "P{k}" }}' for k in range(owners))
+    rooms = ", ".join(f'{{ name = "V{k}", blocks = {quota * owners} }}' for k in range(volumes))
     rows = ", ".join(
-        f'{{ volume = "V{k}", owner = "P", quota = {quota}, files = {files}, directories = 4, dirty = {dirty} }}'
+        f'{{ volume = "V{k % 8}", owner = "P{k // 8}", quota = {quota}, files = {files}, directories = 4, dirty = {dirty} }}'
         for k in range(trees)
     )
-    return f'partition = [{{ name = "P" }}]\nvolume = [{volumes}]\ntree = [{rows}]\n'
+    return f"partition = [{partitions}]\nvolume = [{rooms}]\ntree = [{rows}]\n"
 
 
 def sweep():
-    """64 lines over an image of just under 1,024 blocks."""
-    folder_of(table(1, 860, 8, 8), formatted=False)
-    lines = ["P OPEN_NEW_FILE /V0/P/F0", "P OPEN_FILE /V0/P/F0 READ_WRITE"]
+    """64 lines over an image of 1,023 blocks."""
+    folder_of(table(1, 423, 8, 16), formatted=False)
+    lines = ["P0 OPEN_NEW_FILE /V0/P0/F0", "P0 OPEN_FILE /V0/P0/F0 READ_WRITE"]
     while len(lines) < 64:
-        lines += ["P WRITE_FILE 1 0123456789abcdef", "P SYNC_FILE 1"]
+        lines += ["P0 WRITE_FILE 1 0123456789abcdef", "P0 SYNC_FILE 1"]
     script = ("\n".join(lines[:64]) + "\n").encode()
     told = command(["sweep"], script).strip()
     taken = least(lambda: command(["sweep"], script), 3)
@@ -106,7 +109,7 @@ def stress():
 def check():
     """The image of 32 large trees beside a plain read of what a mount reads of it."""
     quota, files, trees = 1000, 64, 32
-    folder_of(table(trees, quota, files, 8))
+    folder_of(table(trees, quota, files, 16))
     body = -(-(64 + 128 * (files + 4) + 4 * quota) // BLOCK)
     slot = BLOCK * (1 + body) + JOURNAL
     disk = os.open("disk.img", os.O_RDONLY)
