@@ -128,7 +128,7 @@ fn sweeps(
     let mut table = source(alloc, table, 0)?;
     let mut script = source(alloc, script, 0)?;
     let ended = host(alloc, &words, &mut table, &mut script, &mut rig);
-    let untouched = rig.made(CallKind::Read) + rig.made(CallKind::Write) == 0;
+    let untouched = rig.made(CallKind::Read) == 0 && rig.made(CallKind::Write) == 0;
     Ok(ended == status && rig.told() == told && untouched)
 }
 
